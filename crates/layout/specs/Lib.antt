@@ -1,0 +1,4 @@
+pub mod Limits
+pub mod Coded
+pub mod Letters
+pub mod Codes
