@@ -1,4 +1,5 @@
 pub mod Limits
+pub mod Numbers
 pub mod Coded
 pub mod Letters
 pub mod Codes

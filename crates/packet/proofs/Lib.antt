@@ -1,0 +1,4 @@
+pub mod Framing
+pub mod Back
+pub mod Forth
+pub mod Fronts

@@ -1,0 +1,4 @@
+pub mod Values
+pub mod Decoding
+pub mod Meanings
+pub mod Laws
