@@ -2,3 +2,5 @@ pub mod Framing
 pub mod Back
 pub mod Forth
 pub mod Fronts
+pub mod Laying
+pub mod Writes

@@ -2,3 +2,5 @@ pub mod Values
 pub mod Decoding
 pub mod Meanings
 pub mod Laws
+pub mod Writing
+pub mod Examples

@@ -5,8 +5,10 @@
 //!
 //! Left out: lines, phases and what an end does with a packet. Here no letter is out of place.
 //! The types, in the order a reader meets them: `Login`, `Packet`, `Reader`, `Read`.
+pub mod laws;
 pub mod packets;
 pub mod reading;
+pub mod writing;
 
 pub use packets::Login;
 pub use packets::Packet;
