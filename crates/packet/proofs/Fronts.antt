@@ -27,23 +27,23 @@ use Rattle.packet.proofs.Framing.{within, counted-good, head-of-little}
 use Rattle.packet.proofs.Back.{length-encode}
 use Rattle.packet.proofs.Forth.{counted-forth, writes-back}
 
-decode-short : (bs : List ℕ) → length bs < 2 → decode bs ≡ Ok part
+pub decode-short : (bs : List ℕ) → length bs < 2 → decode bs ≡ Ok part
 unfolding decode
 decode-short bs h = cond-true _ _ _ (lt-ltb (length bs) 2 h)
 
-decode-head : (bs : List ℕ) → 2 ≤ length bs → decode bs ≡ next (counted (headNumber bs)) (bodied bs)
+pub decode-head : (bs : List ℕ) → 2 ≤ length bs → decode bs ≡ next (counted (headNumber bs)) (bodied bs)
 unfolding decode
 decode-head bs h = cond-false _ _ _ (le-ltb (length bs) 2 h)
 
 bodied-part : (bs : List ℕ) (n : ℕ) → length bs < n + 2 → bodied bs n ≡ Ok part
 bodied-part bs n h = cond-true _ _ _ (lt-ltb (length bs) (n + 2) h)
 
-bodied-whole : (bs : List ℕ) (n : ℕ) → n + 2 ≤ length bs → bodied bs n ≡ wholly (opened (getD bs 2 0) (take (n - 1) (drop 3 bs)))
+pub bodied-whole : (bs : List ℕ) (n : ℕ) → n + 2 ≤ length bs → bodied bs n ≡ wholly (opened (getD bs 2 0) (take (n - 1) (drop 3 bs)))
 bodied-whole bs n h = cond-false _ _ _ (le-ltb (length bs) (n + 2) h)
 
 -- bytes after a whole packet are not looked at
 module _ (bs rest : List ℕ) where
-  head-same : 2 ≤ length bs → headNumber (bs ++ rest) ≡ headNumber bs
+  pub head-same : 2 ≤ length bs → headNumber (bs ++ rest) ≡ headNumber bs
   head-same h =
       let a : getD (bs ++ rest) 0 0 ≡ getD bs 0 0 = getD-append-left bs rest 0 0 (omega arith) in
       let b : getD (bs ++ rest) 1 0 ≡ getD bs 1 0 = getD-append-left bs rest 0 1 (omega arith) in
@@ -81,7 +81,7 @@ ignores-rest bs rest never =
     ]
 
 -- the head of what is written
-head-encode : (v : Value) → Valid v → headNumber (encode v) ≡ lengthNumber v
+pub head-encode : (v : Value) → Valid v → headNumber (encode v) ≡ lengthNumber v
 unfolding encode
 head-encode v h = head-of-little (lengthNumber v) (within (letter v) (lengthNumber v) (h .fits) .limit)
 
@@ -112,7 +112,7 @@ tells-early bs h =
     }
 
 -- a step that a fault ended, or the one after it
-failed : {X Y : Type 0} (r : Result X PacketFault) (f : X → Result Y PacketFault) (q : PacketFault) (P : Type 0) → (r ≡ Err q → P) → ((x : X) → r ≡ Ok x → f x ≡ Err q → P) → next r f ≡ Err q → P
+pub failed : {X Y : Type 0} (r : Result X PacketFault) (f : X → Result Y PacketFault) (q : PacketFault) (P : Type 0) → (r ≡ Err q → P) → ((x : X) → r ≡ Ok x → f x ≡ Err q → P) → next r f ≡ Err q → P
 failed (Ok x) f q P g k e = k x refl e
 failed (Err p) f q P g k e = g (let same : p ≡ q = cc in ap (λ (y : PacketFault). Err y) same)
 

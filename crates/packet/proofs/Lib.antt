@@ -4,3 +4,4 @@ pub mod Forth
 pub mod Fronts
 pub mod Laying
 pub mod Writes
+pub mod Lengths

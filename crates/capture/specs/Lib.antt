@@ -1,0 +1,4 @@
+pub mod Windows
+pub mod Finding
+pub mod Tallies
+pub mod Runs
