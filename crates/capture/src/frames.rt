@@ -18,6 +18,7 @@ use std::io;
 use std::io::Read;
 
 /// Bytes that were read and are not explained yet: as many as the longest packet has, and no more.
+#[derive(Drop)]
 pub struct Frame {
     memory: [u8; PACKET_LIMIT],
     from: usize,

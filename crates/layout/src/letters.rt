@@ -23,6 +23,22 @@ pub enum Letter {
     Test = b'T' as isize,
 }
 
+/// All letters, in the order of the table of packets.
+pub const LETTERS: [Letter; 12] = [
+    Letter::LoginRequest,
+    Letter::LoginResponse,
+    Letter::Sequenced,
+    Letter::Unsequenced,
+    Letter::SynchronizationComplete,
+    Letter::RetransmissionRequest,
+    Letter::LogoutRequest,
+    Letter::GoodBye,
+    Letter::EndOfSession,
+    Letter::HubHeartbeat,
+    Letter::SeatHeartbeat,
+    Letter::Test,
+];
+
 impl Letter {
     /// The letter as it stands in a packet.
     pub fn byte(self) -> u8

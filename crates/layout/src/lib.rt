@@ -8,6 +8,7 @@ pub mod limits;
 pub mod reasons;
 pub mod statuses;
 
+pub use letters::LETTERS;
 pub use letters::Letter;
 pub use limits::LENGTH_LIMIT;
 pub use limits::MESSAGE_LIMIT;

@@ -1,0 +1,103 @@
+//! One packet in words.
+use crate::texts::Row;
+use crate::texts::RowDisplay;
+use crate::texts::Text;
+use crate::texts::TextDisplay;
+use layout::letters::LetterDisplay;
+use layout::reasons::GoodByeReasonDisplay;
+use layout::reasons::LogoutReasonDisplay;
+use layout::statuses::StatusDisplay;
+use packet::Login;
+use packet::Packet;
+use std::io;
+use std::io::Write;
+
+/// Writes a packet with its offset, length, letter, name and fields.
+pub fn show<W: Write>(out: &mut W, offset: u64, size: usize, packet: Packet<'_>) -> io::Result<()> {
+    let letter = packet.letter();
+    let byte = char::from(letter.byte());
+    write!(out, "{offset:>10} {size:>6}  {byte} {letter}")?;
+    match packet {
+        Packet::LoginRequest(login) => show_login(out, login),
+        Packet::LoginResponse {
+            status,
+            session,
+            highest,
+        } => {
+            let code = char::from(status.byte());
+            writeln!(
+                out,
+                ": status '{code}' ({status}), session {session}, highest {highest}"
+            )
+        }
+        Packet::Sequenced { number, message } => {
+            write!(out, ": number {number}, ")?;
+            show_message(out, message)
+        }
+        Packet::Unsequenced { message } => {
+            write!(out, ": ")?;
+            show_message(out, message)
+        }
+        Packet::RetransmissionRequest { start, end } => writeln!(out, ": start {start}, end {end}"),
+        Packet::LogoutRequest { reason, text } => {
+            let code = char::from(reason.byte());
+            let text = Text(text);
+            writeln!(out, ": reason '{code}' ({reason}), text {text}")
+        }
+        Packet::GoodBye { reason, text } => {
+            let code = char::from(reason.byte());
+            let text = Text(text);
+            writeln!(out, ": reason '{code}' ({reason}), text {text}")
+        }
+        Packet::Test { text } => {
+            let text = Text(text);
+            writeln!(out, ": text {text}")
+        }
+        Packet::SynchronizationComplete
+        | Packet::EndOfSession
+        | Packet::HubHeartbeat
+        | Packet::SeatHeartbeat => writeln!(out),
+    }
+}
+
+fn show_login<W: Write>(out: &mut W, login: Login<'_>) -> io::Result<()> {
+    let version = Text(login.version);
+    let user = Text(login.user);
+    let computer = Text(login.computer);
+    let protocol = Text(login.protocol);
+    let session = login.session;
+    let number = login.number;
+    write!(
+        out,
+        ": version {version}, user {user}, computer {computer}, "
+    )?;
+    writeln!(
+        out,
+        "protocol {protocol}, session {session}, number {number}"
+    )
+}
+
+// A message: its length, then a dump of it.
+fn show_message<W: Write>(out: &mut W, message: &[u8]) -> io::Result<()> {
+    let count = message.len();
+    writeln!(out, "message of {count} bytes")?;
+    for row in message.chunks(16) {
+        let row = Row(row);
+        writeln!(out, "{:>22}{row}", "")?;
+    }
+    Ok(())
+}
+
+/// Writes the first bytes that no packet was told of, if there are any.
+pub fn show_rest<W: Write>(out: &mut W, offset: u64, rest: &[u8]) -> io::Result<()> {
+    let count = rest.len();
+    if count == 0 {
+        return Ok(());
+    }
+    let row = Row(&rest[0..count.min(16)]);
+    writeln!(
+        out,
+        "{offset:>10} {count:>6}  ? left over, of which the first are"
+    )?;
+    writeln!(out, "{:>22}{row}", "")
+}
