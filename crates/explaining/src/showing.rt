@@ -9,6 +9,7 @@ use layout::reasons::LogoutReasonDisplay;
 use layout::statuses::StatusDisplay;
 use packet::Login;
 use packet::Packet;
+use packet::Reader;
 use std::io;
 use std::io::Write;
 
@@ -88,16 +89,18 @@ fn show_message<W: Write>(out: &mut W, message: &[u8]) -> io::Result<()> {
     Ok(())
 }
 
-/// Writes the first bytes that no packet was told of, if there are any.
+/// Writes the bytes that could not be told as a packet, if there are any: those of the part, or of the faulty
+/// packet as far as its length number can be trusted.
 pub fn show_rest<W: Write>(out: &mut W, offset: u64, rest: &[u8]) -> io::Result<()> {
-    let count = rest.len();
+    let size = match Reader::new(rest).packet_len() {
+        Ok(Some(size)) => size,
+        _ => 2,
+    };
+    let count = size.min(rest.len());
     if count == 0 {
         return Ok(());
     }
     let row = Row(&rest[0..count.min(16)]);
-    writeln!(
-        out,
-        "{offset:>10} {count:>6}  ? left over, of which the first are"
-    )?;
+    writeln!(out, "{offset:>10} {count:>6}  ? left over, beginning with")?;
     writeln!(out, "{:>22}{row}", "")
 }
