@@ -16,10 +16,10 @@ use Rattle.layout.specs.declared.letters.Letter.{Letter}
 use Rattle.layout.specs.declared.letters.Letter.the-variants as L
 use Rattle.layout.specs.declared.statuses.Status.{Status}
 use Rattle.layout.specs.declared.statuses.Status.the-variants as S
-use Rattle.layout.specs.declared.reasons.LogoutReason.{LogoutReason}
-use Rattle.layout.specs.declared.reasons.LogoutReason.the-variants as X
-use Rattle.layout.specs.declared.reasons.GoodByeReason.{GoodByeReason}
-use Rattle.layout.specs.declared.reasons.GoodByeReason.the-variants as G
+use Rattle.layout.specs.declared.logouts.LogoutReason.{LogoutReason}
+use Rattle.layout.specs.declared.logouts.LogoutReason.the-variants as X
+use Rattle.layout.specs.declared.goodbyes.GoodByeReason.{GoodByeReason}
+use Rattle.layout.specs.declared.goodbyes.GoodByeReason.the-variants as G
 
 -- a test that chose: each way gives what is wanted
 pub cut : {X : Type 0} (t : Bool) (x y z : X) (P : Type 0) → (t ≡ true → x ≡ z → P) → (t ≡ false → y ≡ z → P) → cond t x y ≡ z → P

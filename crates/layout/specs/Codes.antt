@@ -7,10 +7,10 @@ use Rattle.fault.specs.declared.faults.PacketFault.{PacketFault}
 use Rattle.fault.specs.declared.faults.PacketFault.the-variants.{WrongContent}
 use Rattle.layout.specs.declared.statuses.Status.{Status}
 use Rattle.layout.specs.declared.statuses.Status.the-variants.{Accepted, UnknownUser, SessionUnavailable, InvalidNumber, WrongVersion, WrongProtocol, AlreadyLoggedIn}
-use Rattle.layout.specs.declared.reasons.LogoutReason.{LogoutReason}
-use Rattle.layout.specs.declared.reasons.LogoutReason.the-variants as X
-use Rattle.layout.specs.declared.reasons.GoodByeReason.{GoodByeReason}
-use Rattle.layout.specs.declared.reasons.GoodByeReason.the-variants as G
+use Rattle.layout.specs.declared.logouts.LogoutReason.{LogoutReason}
+use Rattle.layout.specs.declared.logouts.LogoutReason.the-variants as X
+use Rattle.layout.specs.declared.goodbyes.GoodByeReason.{GoodByeReason}
+use Rattle.layout.specs.declared.goodbyes.GoodByeReason.the-variants as G
 use Rattle.layout.specs.Coded.{coded}
 
 -- the statuses in ASCII: space X S N I A L

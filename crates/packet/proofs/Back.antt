@@ -10,8 +10,8 @@ use Rattle.std.specs.declared.result.Result.{Result}
 use Rattle.std.specs.declared.result.Result.the-variants.{Ok, Err}
 use Rattle.fault.specs.declared.faults.PacketFault.{PacketFault}
 use Rattle.layout.specs.declared.statuses.Status.{Status}
-use Rattle.layout.specs.declared.reasons.LogoutReason.{LogoutReason}
-use Rattle.layout.specs.declared.reasons.GoodByeReason.{GoodByeReason}
+use Rattle.layout.specs.declared.logouts.LogoutReason.{LogoutReason}
+use Rattle.layout.specs.declared.goodbyes.GoodByeReason.{GoodByeReason}
 use Rattle.layout.specs.declared.letters.Letter.the-variants as L
 use Rattle.layout.specs.Letters.{letterByte}
 use Rattle.layout.specs.Numbers.{little, number}

@@ -7,8 +7,8 @@ use lib.ListN.{length}
 use Rattle.layout.specs.declared.letters.Letter.{Letter}
 use Rattle.layout.specs.declared.letters.Letter.the-variants as L
 use Rattle.layout.specs.declared.statuses.Status.{Status}
-use Rattle.layout.specs.declared.reasons.LogoutReason.{LogoutReason}
-use Rattle.layout.specs.declared.reasons.GoodByeReason.{GoodByeReason}
+use Rattle.layout.specs.declared.logouts.LogoutReason.{LogoutReason}
+use Rattle.layout.specs.declared.goodbyes.GoodByeReason.{GoodByeReason}
 use Rattle.layout.specs.Numbers.{little}
 use Rattle.layout.specs.Letters.{letterByte, allowed}
 use Rattle.layout.specs.Codes.{statusByte, logoutByte, goodByeByte}

@@ -51,7 +51,10 @@ fn letters_and_lengths() -> Result<(), Fail> {
 
 #[test]
 fn statuses_and_reasons() -> Result<(), Fail> {
-    check_eq(fault_of(&[11, 0, b'R', b'Q', 7, 1, 0, 0, 0, 0, 0, 0, 0]), (6, 3))?;
+    check_eq(
+        fault_of(&[11, 0, b'R', b'Q', 7, 1, 0, 0, 0, 0, 0, 0, 0]),
+        (6, 3),
+    )?;
     check_eq(fault_of(&[2, 0, b'X', b'Q']), (6, 3))?;
     check_eq(fault_of(&[2, 0, b'G', b' ']), (6, 3))?;
     check_eq(fault_of(&[2, 0, b'X', b' ']), (0, 0))?;

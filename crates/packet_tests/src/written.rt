@@ -13,14 +13,26 @@ use std::test::*;
 #[test]
 fn sequenced() -> Result<(), Fail> {
     let mut out = [7u8; 15];
-    check_eq(Packet::Sequenced { number: 258, message: b"AB" }.write(&mut out), Ok(13))?;
+    check_eq(
+        Packet::Sequenced {
+            number: 258,
+            message: b"AB",
+        }.write(&mut out),
+        Ok(13),
+    )?;
     check_eq(out, [11, 0, b'S', 2, 1, 0, 0, 0, 0, 0, 0, b'A', b'B', 7, 7])
 }
 
 #[test]
 fn short_buffers() -> Result<(), Fail> {
     let mut out = [7u8; 12];
-    check_eq(Packet::Sequenced { number: 1, message: b"AB" }.write(&mut out), Err(Refusal::ShortBuffer))?;
+    check_eq(
+        Packet::Sequenced {
+            number: 1,
+            message: b"AB",
+        }.write(&mut out),
+        Err(Refusal::ShortBuffer),
+    )?;
     check_eq(out, [7u8; 12])?;
     check_eq(Refusal::ShortBuffer.number(), 14)
 }
@@ -53,13 +65,37 @@ fn limits(rt: LibcRuntime) -> Result<(), Fail> {
     let wrong = PacketFault::WrongLength;
     let message = &text[0..4096];
     let longer = &text[0..4097];
-    check_eq(Packet::Sequenced { number: 1, message: longer }.write(&mut out), Err(Refusal::BadPacket(over)))?;
-    check_eq(Packet::Unsequenced { message: longer }.write(&mut out), Err(Refusal::BadPacket(wrong)))?;
+    check_eq(
+        Packet::Sequenced {
+            number: 1,
+            message: longer,
+        }.write(&mut out),
+        Err(Refusal::BadPacket(over)),
+    )?;
+    check_eq(
+        Packet::Unsequenced { message: longer }.write(&mut out),
+        Err(Refusal::BadPacket(wrong)),
+    )?;
     let reason = GoodByeReason::BadPacket;
-    check_eq(Packet::GoodBye { reason, text: &text }.write(&mut out), Err(Refusal::BadPacket(over)))?;
+    check_eq(
+        Packet::GoodBye {
+            reason,
+            text: &text,
+        }.write(&mut out),
+        Err(Refusal::BadPacket(over)),
+    )?;
     check_eq(Refusal::BadPacket(over).number(), 18)?;
     check_eq(out[0], 7)?;
-    check_eq(Packet::Sequenced { number: 1, message }.write(&mut out), Ok(4107))?;
+    check_eq(
+        Packet::Sequenced { number: 1, message }.write(&mut out),
+        Ok(4107),
+    )?;
     check_eq(Packet::Unsequenced { message }.write(&mut out), Ok(4099))?;
-    check_eq(Packet::GoodBye { reason, text: &text[0..4103] }.write(&mut out), Ok(4107))
+    check_eq(
+        Packet::GoodBye {
+            reason,
+            text: &text[0..4103],
+        }.write(&mut out),
+        Ok(4107),
+    )
 }
