@@ -7,7 +7,7 @@ use std::io::Write;
 fn run(rt: &LibcRuntime) -> Result<(), AnyError> {
     let mut input = rt.stdin();
     let mut out = BufWriter::new(rt.stdout());
-    let _ = explain(&mut input, &mut out)?;
+    let _ = explain(rt.alloc(), &mut input, &mut out)?;
     out.flush()?;
     Ok(())
 }

@@ -19,8 +19,8 @@ use Rattle.capture.specs.Finding.{Part, Packet-at, Tells}
 use Rattle.capture.specs.Runs.{Run, start, came, told}
 use Rattle.capture.specs.Tallies.{raised}
 use Rattle.capture.specs.Windows.{Grown}
-use Rattle.explaining.specs.declared.endings.Ending.{Ending}
-use Rattle.explaining.specs.declared.endings.Ending.the-variants as E
+use Rattle.capture.specs.declared.endings.Ending.{Ending}
+use Rattle.capture.specs.declared.endings.Ending.the-variants as E
 use Rattle.explaining.specs.Explained.{Knows, Went, Answers, Turned, More, Ends, Fresh, Reached, Explained, tallied, progress}
 
 told-fault : (held : List ℕ) (fault : Fault) → Tells held (Err fault) → Ends held (E.Fault fault)

@@ -15,8 +15,8 @@ use Rattle.packet.specs.Decoding.{part, decode}
 use Rattle.capture.specs.Runs.{Run}
 use Rattle.capture.specs.Tallies.{raised}
 use Rattle.capture.specs.Windows.{Grown}
-use Rattle.explaining.specs.declared.endings.Ending.{Ending}
-use Rattle.explaining.specs.declared.endings.Ending.the-variants as E
+use Rattle.capture.specs.declared.endings.Ending.{Ending}
+use Rattle.capture.specs.declared.endings.Ending.the-variants as E
 
 -- the counts of the packets told, one after the other
 abbrev pub tallied : List ℕ → List Value → List ℕ

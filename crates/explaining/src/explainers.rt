@@ -3,17 +3,18 @@ ghost use mathlib.Core.Path.{_≡_};
 ghost use Rattle.std.specs.Vec.{made};
 ghost use Rattle.capture.specs.Windows.{window};
 ghost use Rattle.explaining.specs.Explained.{Turned, More, Explained, Fresh};
-use crate::endings::Ending;
-use crate::showing::show;
-use crate::showing::show_rest;
-use crate::summaries::Summary;
-use crate::summaries::show_summary;
+use capture::Ending;
 use capture::Frame;
+use capture::Summary;
 use capture::Tally;
 use capture::find;
+use std::alloc::Global;
 use std::io;
 use std::io::Read;
 use std::io::Write;
+use words::show_packet;
+use words::show_rest;
+use words::show_summary;
 
 /// What is known while a capture is explained.
 #[derive(Drop)]
@@ -40,6 +41,7 @@ impl Explainer {
     /// nothing more to tell.
     pub fn turn<R: Read, W: Write>(
         &mut self,
+        heap: Global,
         input: &mut R,
         out: &mut W,
     ) -> io::Result<Option<Ending>>
@@ -52,7 +54,7 @@ impl Explainer {
         let Some(found) = front else {
             return self.more(input);
         };
-        show(out, self.offset, found.size, found.packet)?;
+        show_packet(heap, out, self.offset, found.size, found.packet)?;
         let letter = found.packet.letter();
         let size = found.size;
         self.frame.pass(size);
@@ -78,19 +80,19 @@ impl Explainer {
 }
 
 /// Explains a capture from its first byte to its ending, and then writes the summary line.
-pub fn explain<R: Read, W: Write>(input: &mut R, out: &mut W) -> io::Result<Summary>
+pub fn explain<R: Read, W: Write>(heap: Global, input: &mut R, out: &mut W) -> io::Result<Summary>
     ensures { λ r. ⌜ made r (λ s. Explained (s .tally .counts) (s .offset) (s .ending)) ⌝ }
 {
     let mut explainer = Explainer::new();
     writeln!(out, "{:>10} {:>6}  {}", "offset", "bytes", "packet")?;
     for _ in 0..u64::MAX {
-        if let Some(ending) = explainer.turn(input, out)? {
+        if let Some(ending) = explainer.turn(heap, input, out)? {
             let summary = Summary {
                 tally: explainer.tally,
                 offset: explainer.offset,
                 ending,
             };
-            show_rest(out, explainer.offset, explainer.frame.bytes())?;
+            show_rest(heap, out, explainer.offset, explainer.frame.bytes())?;
             show_summary(out, summary)?;
             return Ok(summary);
         }

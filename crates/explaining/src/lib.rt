@@ -1,16 +1,10 @@
-//! Explains a capture in words: each packet with its offset, length, name and fields, then a summary line.
+//! Explains a capture: each packet in words, one after the other, and then a summary line.
 //!
 //! `explain` reads from any input and writes to any output. It holds one frame and the counts, however long
-//! the capture is. What it tells of the packets is proved; how the words look is only tested.
+//! the capture is. Which packets it tells, and how it counts them, is proved.
 //!
-//! The types, in the order a reader meets them: `Ending`, `Explainer`, `Summary`.
-pub mod endings;
+//! Left out: the words, which are in the crate `words`. The type: `Explainer`.
 pub mod explainers;
-pub mod showing;
-pub mod summaries;
-pub mod texts;
 
-pub use endings::Ending;
 pub use explainers::Explainer;
 pub use explainers::explain;
-pub use summaries::Summary;

@@ -6,7 +6,7 @@ use std::test::*;
 fn tells(rt: &LibcRuntime, capture: &[u8], words: &[u8]) -> Result<(), Fail> {
     let mut input = capture;
     let mut out = Vec::new(rt.alloc());
-    let _ = explain(&mut input, &mut out)?;
+    let _ = explain(rt.alloc(), &mut input, &mut out)?;
     check(out.len() > 26)?;
     check_eq(&out[26..], words)
 }

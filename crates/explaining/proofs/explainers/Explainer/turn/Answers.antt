@@ -23,8 +23,8 @@ returns-in-rest g c =
     let p = rw (c .in-rest .is) at t in
     turned-more _ _ _ _ _ _ (c .more .result) p (ap (λ (t : Tally). t .counts) (m .tally)) (m .offset) (m .frame)
 
-pub returns-in-Break-show : need.returns-in-Break-show
-returns-in-Break-show g c =
+pub returns-in-Break-show-packet : need.returns-in-Break-show-packet
+returns-in-Break-show-packet g c =
     let r = err-from-errBy (c .from-residual .result) (c .from-residual .ensures .1) in
     rw (r .1) (turned-error _ _ _ (r .0))
 

@@ -1,4 +1,5 @@
-//! How a capture ended.
+//! How a capture ended, and what it held.
+use crate::tallies::Tally;
 use fault::Fault;
 
 /// How a capture ended.
@@ -10,4 +11,13 @@ pub enum Ending {
     Part(usize),
     /// With a fault at the front of what is left.
     Fault(Fault),
+}
+
+/// What a capture held.
+#[derive(Clone, Copy)]
+pub struct Summary {
+    pub tally: Tally,
+    /// How many bytes the packets took.
+    pub offset: u64,
+    pub ending: Ending,
 }

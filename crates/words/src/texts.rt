@@ -1,13 +1,9 @@
-//! Bytes as text and as hexadecimal digits.
+//! Bytes as text.
 use std::fmt;
 
 /// A text field: in quotes, without the spaces that pad it on the right; what is no visible ASCII as `\xNN`.
 #[derive(Clone, Copy)]
 pub struct Text<'a>(pub &'a [u8]);
-
-/// One row of a dump: up to sixteen bytes as pairs of digits, and beside them what is visible of them.
-#[derive(Clone, Copy)]
-pub struct Row<'a>(pub &'a [u8]);
 
 pub impl fmt::Display for Text<'_> as TextDisplay {
     fn fmt<W: fmt::Write>(&self, f: &mut fmt::Formatter<W>) -> fmt::Result {
@@ -24,27 +20,6 @@ pub impl fmt::Display for Text<'_> as TextDisplay {
             }
         }
         f.write_str("\"")
-    }
-}
-
-pub impl fmt::Display for Row<'_> as RowDisplay {
-    fn fmt<W: fmt::Write>(&self, f: &mut fmt::Formatter<W>) -> fmt::Result {
-        for i in 0..16usize {
-            if i < self.0.len() {
-                let x = self.0[i];
-                write!(f, "{x:02x} ")?;
-            } else {
-                f.write_str("   ")?;
-            }
-        }
-        f.write_str("|")?;
-        for b in self.0 {
-            match *b {
-                0x20..=0x7e => f.write_char(char::from(*b))?,
-                _ => f.write_str(".")?,
-            }
-        }
-        f.write_str("|")
     }
 }
 

@@ -1,21 +1,12 @@
-//! The summary of a capture, and its line.
-use crate::endings::Ending;
-use capture::Tally;
+//! The summary line of a capture.
+use capture::Ending;
+use capture::Summary;
 use fault::Fault;
 use fault::faults::FaultDisplay;
 use fault::faults::LayerDisplay;
 use layout::LETTERS;
 use std::io;
 use std::io::Write;
-
-/// What a capture held.
-#[derive(Clone, Copy)]
-pub struct Summary {
-    pub tally: Tally,
-    /// How many bytes the packets took.
-    pub offset: u64,
-    pub ending: Ending,
-}
 
 /// Writes the summary line: packets by letter, bytes, and how the capture ended.
 pub fn show_summary<W: Write>(out: &mut W, summary: Summary) -> io::Result<()> {

@@ -1,8 +1,8 @@
-//! One packet in words.
-use crate::texts::Row;
-use crate::texts::RowDisplay;
+//! One packet in words, and bytes that are no packet.
 use crate::texts::Text;
 use crate::texts::TextDisplay;
+use dump::ROW;
+use dump::row;
 use layout::goodbyes::GoodByeReasonDisplay;
 use layout::letters::LetterDisplay;
 use layout::logouts::LogoutReasonDisplay;
@@ -10,11 +10,18 @@ use layout::statuses::StatusDisplay;
 use packet::Login;
 use packet::Packet;
 use packet::Reader;
+use std::alloc::Global;
 use std::io;
 use std::io::Write;
 
 /// Writes a packet with its offset, length, letter, name and fields.
-pub fn show<W: Write>(out: &mut W, offset: u64, size: usize, packet: Packet<'_>) -> io::Result<()> {
+pub fn show_packet<W: Write>(
+    heap: Global,
+    out: &mut W,
+    offset: u64,
+    size: usize,
+    packet: Packet<'_>,
+) -> io::Result<()> {
     let letter = packet.letter();
     let byte = char::from(letter.byte());
     write!(out, "{offset:>10} {size:>6}  {byte} {letter}")?;
@@ -33,11 +40,11 @@ pub fn show<W: Write>(out: &mut W, offset: u64, size: usize, packet: Packet<'_>)
         }
         Packet::Sequenced { number, message } => {
             write!(out, ": number {number}, ")?;
-            show_message(out, message)
+            show_message(heap, out, message)
         }
         Packet::Unsequenced { message } => {
             write!(out, ": ")?;
-            show_message(out, message)
+            show_message(heap, out, message)
         }
         Packet::RetransmissionRequest { start, end } => writeln!(out, ": start {start}, end {end}"),
         Packet::LogoutRequest { reason, text } => {
@@ -78,20 +85,26 @@ fn show_login<W: Write>(out: &mut W, login: Login<'_>) -> io::Result<()> {
     )
 }
 
-// A message: its length, then a dump of it.
-fn show_message<W: Write>(out: &mut W, message: &[u8]) -> io::Result<()> {
+// A message: its length, then its bytes.
+fn show_message<W: Write>(heap: Global, out: &mut W, message: &[u8]) -> io::Result<()> {
     let count = message.len();
     writeln!(out, "message of {count} bytes")?;
-    for row in message.chunks(16) {
-        let row = Row(row);
-        writeln!(out, "{:>22}{row}", "")?;
+    for bytes in message.chunks(ROW) {
+        show_row(heap, out, bytes)?;
     }
     Ok(())
 }
 
+// A row of bytes below the column of names.
+fn show_row<W: Write>(heap: Global, out: &mut W, bytes: &[u8]) -> io::Result<()> {
+    write!(out, "{:>22}", "")?;
+    out.write_all(&row(heap, bytes)?)?;
+    out.write_all(b"\n")
+}
+
 /// Writes the bytes that could not be told as a packet, if there are any: those of the part, or of the faulty
 /// packet as far as its length number can be trusted.
-pub fn show_rest<W: Write>(out: &mut W, offset: u64, rest: &[u8]) -> io::Result<()> {
+pub fn show_rest<W: Write>(heap: Global, out: &mut W, offset: u64, rest: &[u8]) -> io::Result<()> {
     let size = match Reader::new(rest).packet_len() {
         Ok(Some(size)) => size,
         _ => 2,
@@ -100,7 +113,6 @@ pub fn show_rest<W: Write>(out: &mut W, offset: u64, rest: &[u8]) -> io::Result<
     if count == 0 {
         return Ok(());
     }
-    let row = Row(&rest[0..count.min(16)]);
     writeln!(out, "{offset:>10} {count:>6}  ? left over, beginning with")?;
-    writeln!(out, "{:>22}{row}", "")
+    show_row(heap, out, &rest[0..count.min(ROW)])
 }
