@@ -5,8 +5,9 @@
 //! refusals by their numbers. Each layer has a fault type of its own, and `?` passes it on through `From`.
 //!
 //! Left out: what finds the faults. The types, in the order a reader meets them: `Field`, `PacketFault`,
-//! `LogFault`, `Layer`, `Fault`, `Refusal`.
+//! `LogFault`, `Layer`, `Fault`, `Refusal`, `Unmade`.
 pub mod faults;
+pub mod making;
 pub mod refusals;
 
 pub use faults::Fault;
@@ -14,4 +15,6 @@ pub use faults::Field;
 pub use faults::Layer;
 pub use faults::LogFault;
 pub use faults::PacketFault;
+pub use making::RefusalFromUnmade;
+pub use making::Unmade;
 pub use refusals::Refusal;

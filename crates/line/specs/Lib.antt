@@ -1,0 +1,5 @@
+pub mod Sizes
+pub mod Lines
+pub mod Memory
+pub mod Making
+pub mod Transfers
