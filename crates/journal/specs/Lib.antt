@@ -1,0 +1,4 @@
+pub mod Layout
+pub mod Opening
+pub mod Laws
+pub mod Examples
