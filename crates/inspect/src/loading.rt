@@ -1,4 +1,7 @@
 //! Reading a file into memory.
+ghost use mathlib.Core.Path.{_≡_};
+ghost use lib.Dec.{leb};
+ghost use Rattle.log.specs.Meaning.{sizeLimit};
 use journal::JOURNAL_LIMIT;
 use std::fmt;
 use std::fs;
@@ -31,10 +34,17 @@ pub impl From<io::Error> for Unread as UnreadFromIo {
     }
 }
 
+/// Whether a file of so many bytes can be a saved journal.
+fn can_be_journal(len: u64) -> bool
+    ensures { λ r. ⌜ r ≡ leb len sizeLimit ⌝ }
+{
+    len <= JOURNAL_LIMIT as u64
+}
+
 /// The bytes of a file that is not larger than the largest journal.
 pub fn load(rt: &LibcRuntime, path: &str) -> Result<Vec<u8>, Unread> {
     let len = fs::metadata(rt, path)?.len();
-    if len > JOURNAL_LIMIT as u64 {
+    if !can_be_journal(len) {
         return Err(Unread::TooLarge(len));
     }
     Ok(fs::read(rt, path)?)
