@@ -39,21 +39,21 @@ pub enum PacketFault {
 }
 
 /// What is wrong with a log.
-#[derive(Clone, Copy, PartialEq, Eq, Debug)]
+#[derive(Clone, Copy)]
 pub enum LogFault {
     /// It has no room or no place for one message more.
     Full,
 }
 
 /// The layer that found a fault.
-#[derive(Clone, Copy, PartialEq, Eq, Debug)]
+#[derive(Clone, Copy)]
 pub enum Layer {
     Packet,
     Log,
 }
 
 /// A fault of either layer.
-#[derive(Clone, Copy, PartialEq, Eq, Debug)]
+#[derive(Clone, Copy)]
 pub enum Fault {
     Packet(PacketFault),
     Log(LogFault),

@@ -6,7 +6,7 @@ use fault::PacketFault;
 use std::fmt;
 
 /// Why a hub says GoodBye.
-#[derive(Clone, Copy, PartialEq, Eq, Debug)]
+#[derive(Clone, Copy)]
 pub enum GoodByeReason {
     BadPacket = b'B' as isize,
     LoginTimeout = b'L' as isize,

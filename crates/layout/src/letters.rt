@@ -7,7 +7,7 @@ use fault::PacketFault;
 use std::fmt;
 
 /// The letter of a packet, which says what the packet is.
-#[derive(Clone, Copy, PartialEq, Eq, Debug)]
+#[derive(Clone, Copy)]
 pub enum Letter {
     LoginRequest = b'L' as isize,
     LoginResponse = b'R' as isize,

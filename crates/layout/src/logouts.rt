@@ -6,7 +6,7 @@ use fault::PacketFault;
 use std::fmt;
 
 /// Why a seat logs out.
-#[derive(Clone, Copy, PartialEq, Eq, Debug)]
+#[derive(Clone, Copy)]
 pub enum LogoutReason {
     Done = b' ' as isize,
     BadPacket = b'B' as isize,

@@ -6,7 +6,7 @@ use fault::PacketFault;
 use std::fmt;
 
 /// What a login response says of the login.
-#[derive(Clone, Copy, PartialEq, Eq, Debug)]
+#[derive(Clone, Copy)]
 pub enum Status {
     Accepted = b' ' as isize,
     UnknownUser = b'X' as isize,

@@ -3,8 +3,6 @@ use fault::Fault;
 use fault::Layer;
 use fault::PacketFault;
 use fault::faults::FaultFromPacket;
-use fault::faults::LayerDebug;
-use fault::faults::LayerPartialEq;
 use packet::Packet;
 use packet::Read;
 use packet::Reader;
@@ -75,7 +73,7 @@ fn layers() -> Result<(), Fail> {
     match number_of(&[0, 0]) {
         Ok(_) => Err(Fail::new("no fault")),
         Err(fault) => {
-            check_eq(fault.layer(), Layer::Packet)?;
+            check(matches!(fault.layer(), Layer::Packet))?;
             check_eq(fault.cause(), 1)
         }
     }
