@@ -1,4 +1,6 @@
 //! The account table and the login decision.
+#![tactic(auto)]
+
 pub mod fields;
 pub mod laws;
 pub mod logins;

@@ -1,4 +1,6 @@
 //! Tests of accounts and logins on examples: fields at their edges, a full table, numbers at the edge, marks.
+#![tactic(auto)]
+
 #[cfg(test)]
 mod tests {
     use account::{Account, Accounts, SPOKEN_VERSION};

@@ -1,4 +1,6 @@
 //! A log of either kind, so that a program chooses at run time.
+#![tactic(auto)]
+
 ghost use Rattle.std.specs.Prelude.{◌≡◌};
 ghost use Rattle.message_log.specs.Meaning.{Meaning};
 ghost use Rattle.any_log.specs.Kinds.{inside};

@@ -5,6 +5,8 @@
 //! (`Setting.antt`), and each of its calls does what those wrong rules say.
 //!
 //! Left out: that the right rules keep the promises, which is the business of `promises`.
+#![tactic(auto)]
+
 ghost use Rattle.astray.specs.Early.{EarlyCompleteLies};
 ghost use Rattle.astray.specs.Kept.{KeptFrameMisleads};
 ghost use Rattle.astray.specs.Refusing.{NextNumberPasses, RefusingLocksOut, RefusingStrands};

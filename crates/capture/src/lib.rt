@@ -6,6 +6,8 @@
 //!
 //! Left out: printing. The types, in the order a reader meets them: `Frame`, `Found`, `Tally`,
 //! `Ending`, `Summary`.
+#![tactic(auto)]
+
 pub mod endings;
 pub mod finding;
 pub mod frames;

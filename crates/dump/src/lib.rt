@@ -1,6 +1,8 @@
 //! Bytes as people read them: in hex, with the readable ones beside.
 //!
 //! Left out: where they are printed.
+#![tactic(auto)]
+
 ghost use Rattle.std.specs.Prelude.{◌≡◌, ◌%◌, ◌++◌, map, IfOk, OnOk};
 ghost use Rattle.std.specs.List.{flat_map};
 ghost use Rattle.dump.specs.Rows.{digit_of, hex_of, readable_of, row_of};

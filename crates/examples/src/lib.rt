@@ -2,6 +2,8 @@
 //!
 //! Left out: the examples themselves, which stand with their layers (`specs/Examples.antt` of `packet` and of
 //! `journal`).
+#![tactic(auto)]
+
 ghost use Rattle.examples.specs.Worked.{WorkedExamplesHold};
 
 /// Every worked example holds of the definitions that the contracts cite.

@@ -1,4 +1,6 @@
 //! Says what a capture holds: the bytes of one direction of a connection, on standard input.
+#![tactic(auto)]
+
 use explaining::explain;
 use std::io::{BufWriter, Write};
 

@@ -4,6 +4,8 @@
 //! the capture is. Which packets it tells, and how it counts them, is proved.
 //!
 //! Left out: the words, which are in the crate `words`. The type: `Explainer`.
+#![tactic(auto)]
+
 pub mod explainers;
 
 pub use explainers::{Explainer, explain};

@@ -6,6 +6,8 @@
 //!
 //! Left out: what finds the faults. The types, in the order a reader meets them: `Field`, `PacketFault`,
 //! `LogFault`, `Layer`, `Fault`, `Refusal`, `Unmade`.
+#![tactic(auto)]
+
 pub mod faults;
 pub mod making;
 pub mod refusals;

@@ -2,6 +2,8 @@
 //!
 //! Left out: phases, and what an end does with a packet. The functions, in the order a reader meets them: `post`,
 //! `post_message`, `fill`, `judge`.
+#![tactic(auto)]
+
 pub mod filling;
 pub mod judging;
 pub mod posting;

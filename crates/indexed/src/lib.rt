@@ -2,6 +2,8 @@
 //!
 //! Reading and adding a message take the same time whatever its number, beside the copy. Left out: how the pool and
 //! the table are saved.
+#![tactic(auto)]
+
 ghost use Rattle.std.specs.Prelude.{◌≡◌, ℕ, ◌-◌, ◌<◌, ◌≤◌, true, false, length, vec_len, MatchResult};
 ghost use Rattle.fault.specs.declared.refusals.Refusal.TheVariants as R;
 ghost use Rattle.message_log.specs.Meaning.{Meaning, size_limit};

@@ -1,4 +1,6 @@
 //! `inspect FILE..`: what saved journals hold, or where they are broken, why, and what can still be read.
+#![tactic(auto)]
+
 mod loading;
 mod showing;
 

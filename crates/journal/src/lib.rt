@@ -6,6 +6,8 @@
 //! Memory for the index is got when the journal is made or opened, and never later.
 //!
 //! Left out: files. In the order a reader meets them: `Journal`, `Journal::new`, `Journal::open`, `Journal::bytes`.
+#![tactic(auto)]
+
 pub mod journals;
 pub mod laws;
 

@@ -3,6 +3,8 @@
 //! Left out: where a packet's fields stand and how they are read; that is the crate `packet`.
 //! The types, in the order a reader meets them: the limits, `Letter`, `Status`, `LogoutReason`,
 //! `GoodByeReason`.
+#![tactic(auto)]
+
 pub mod goodbyes;
 pub mod letters;
 pub mod limits;

@@ -7,6 +7,8 @@
 //! Left out: the lines themselves. The crates `ring` and `straight` have two that own their memory, `paced`
 //! has a layer over any line, and `any_line` has an enum over the kinds.
 //! The items, in the order a reader meets them: `Line`, `transfer`, the sizes.
+#![tactic(auto)]
+
 pub mod lines;
 pub mod making;
 pub mod transfers;

@@ -1,4 +1,6 @@
 //! Tests of the lines on examples: wraps, room that comes back late, nested layers, refusals, transfers.
+#![tactic(auto)]
+
 #[cfg(test)]
 mod tests {
     use any_line::AnyLine;

@@ -1,5 +1,7 @@
 //! Runs of the logs on examples: the same calls on both kinds, a journal that is saved and opened, and one that is
 //! broken.
+#![tactic(auto)]
+
 #[cfg(test)]
 mod tests {
     use any_log::AnyLog;

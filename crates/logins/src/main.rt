@@ -2,6 +2,8 @@
 //!
 //! The lines are `account USER COMPUTER PROTOCOL`, `hub SESSION HIGHEST`, `login VERSION USER COMPUTER PROTOCOL
 //! SESSION NUMBER` and `logout USER COMPUTER`. Blank lines and lines that begin with `#` are passed over.
+#![tactic(auto)]
+
 mod showing;
 
 use admitting::{Desk, Word, is_passed_over, read, word_of};

@@ -7,6 +7,8 @@
 //!
 //! Left out: how a log keeps its messages. In the order a reader meets them: `Log`, `Space` (what a log has left,
 //! which judges a message).
+#![tactic(auto)]
+
 pub mod laws;
 pub mod logs;
 pub mod space;

@@ -4,6 +4,8 @@
 //! to return. The words stand apart from the types, so that the crates that everything rests on stay small.
 //!
 //! Left out: packets and captures in words, which are in the crate `words`.
+#![tactic(auto)]
+
 pub mod codes;
 pub mod faults;
 pub mod refusals;

@@ -5,6 +5,8 @@
 //! number. That is shown from the meaning of the line under it alone.
 //!
 //! The types: `Paced`, and `PacedLine`, by which it is a line.
+#![tactic(auto)]
+
 pub mod pacing;
 
 pub use pacing::{LARGEST_PACE, Paced};

@@ -5,6 +5,8 @@
 //!
 //! Left out: lines, phases and what an end does with a packet. Here no letter is out of place.
 //! The types, in the order a reader meets them: `Login`, `Packet`, `Reader`, `Read`.
+#![tactic(auto)]
+
 pub mod laws;
 pub mod packets;
 pub mod reading;

@@ -4,6 +4,8 @@
 //! ends. Here are the moves of whole slices that such a log needs, and in `specs/` what its messages are.
 //!
 //! Left out: the logs themselves, and what stands in the gaps.
+#![tactic(auto)]
+
 pub mod bytes;
 
 pub use bytes::{are_bytes, copy_out, edge_at, put};

@@ -6,6 +6,8 @@
 //! crate do nothing, and each carries one of them as its contract.
 //!
 //! Left out: the code of the ends. What is proved here is proved of the rules in the crate `rules`.
+#![tactic(auto)]
+
 ghost use Rattle.rules.specs.Rounds.{Step};
 ghost use Rattle.promises.specs.Promises.{NeverWrong, NeverShorter, CatchesUp, CanCatchUp, InStepIsTrue, SetUpBegins};
 

@@ -3,6 +3,8 @@
 //!
 //! KIND is `ring` or `straight`, after at most two times `paced NUMBER` for a pacing layer over it. The line has
 //! the smallest full size that a line may have.
+#![tactic(auto)]
+
 mod choices;
 mod passing;
 mod words;

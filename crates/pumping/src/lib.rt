@@ -4,6 +4,8 @@
 //! what still waits at the end. It is proved for every line: each deed in the account happened, and what came
 //! out is what went in. Left out: printing, which is the program `pump`.
 //! The types, in the order a reader meets them: `Deed`, `Account`, `PieceSize`, `Tally`.
+#![tactic(auto)]
+
 pub mod accounts;
 pub mod pieces;
 pub mod runs;

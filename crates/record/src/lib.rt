@@ -6,6 +6,8 @@
 //!
 //! Left out: whole logs. In the order a reader meets them: `Mark`, `RecordFault`, `Record`, `read_session`,
 //! `read_message`, `fault_at`.
+#![tactic(auto)]
+
 pub mod laws;
 pub mod reader;
 pub mod records;

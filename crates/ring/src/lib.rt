@@ -12,6 +12,8 @@
 //! The room is the size less what waits, and the hand-out limit is the longest packet. A put and a take each
 //! copy at most two parts. Left out: the meaning of a line, which is in the crate `line`.
 //! The types: `Ring`, and `RingLine`, by which it is a line.
+#![tactic(auto)]
+
 mod places;
 pub mod rings;
 

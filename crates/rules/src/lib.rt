@@ -9,6 +9,8 @@
 //!
 //! Left out: the code of the ends. The types, in the order a reader meets them: `HubPhase`, `SeatPhase`, `How`,
 //! `Received`, `Sent`, `Heard`, `Report`.
+#![tactic(auto)]
+
 pub mod answers;
 pub mod laws;
 pub mod phases;

@@ -4,6 +4,8 @@
 //!
 //! Left out: what it makes of a packet, which is the crate `standing`; the hub; and what clears the down line.
 //! In the order a reader meets them: `Seat`, its `receive`, its `send`, the calls that are neither, `may_connect`.
+#![tactic(auto)]
+
 mod calls;
 mod receiving;
 mod seats;

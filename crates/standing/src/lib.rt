@@ -2,6 +2,8 @@
 //!
 //! Left out: lines, frames and counts of ticks; those are the crate `seat`. In the order a reader meets them:
 //! `Standing`, its `act` on a packet, `Due`, `may_connect`.
+#![tactic(auto)]
+
 pub mod acts;
 pub mod dues;
 pub mod standings;

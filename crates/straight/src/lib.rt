@@ -10,6 +10,8 @@
 //!
 //! The hand-out limit is 1: a take hands over one byte. Left out: the meaning of a line, which is in the crate
 //! `line`. The types: `Straight`, and `StraightLine`, by which it is a line.
+#![tactic(auto)]
+
 pub mod straights;
 
 pub use straights::Straight;

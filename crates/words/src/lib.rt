@@ -4,6 +4,8 @@
 //! to return.
 //!
 //! Left out: which packets there are, which is in the crate `explaining`.
+#![tactic(auto)]
+
 pub mod packets;
 pub mod summaries;
 pub mod texts;
