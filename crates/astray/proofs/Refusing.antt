@@ -22,7 +22,7 @@ use Rattle.rules.specs.Changes.{grants, refuses, hub_took}
 use Rattle.rules.specs.Hub.{decided, hub_hears, hub_sends}
 use Rattle.rules.specs.Seat.{seat_hears}
 use Rattle.rules.specs.Calls.{asked, asked_session, asked_number, login_of, connected}
-use Rattle.rules.specs.Rounds.{SeatReceives, seat_deaf, seat_hears_lem, hub_deaf, hub_hears_lem, Drains, ends, more, Went}
+use Rattle.rules.specs.Rounds.{SeatReceives, seat_deaf, seat_hears_bytes, hub_deaf, hub_hears_bytes, Drains, ends, more, Went}
 use Rattle.promises.specs.Runs.{begins, at_first, GrantedRounds, no_round, round}
 use Rattle.promises.specs.Promises.{Level}
 use Rattle.astray.specs.Setting.{line_of, log_of, starting_with, fresh_buffers}
@@ -103,7 +103,7 @@ hub_heard_lem : (b : Buffers) → Drains NarrowReceives (begun b) 1 None (login_
 unfolding encode decode
 hub_heard_lem b =
     more (begun b) (head_heard b) 0 1 None (login_heard b).after
-    (no_login _ (λ e. clash (cc e)) (hub_hears_lem _ refl (roomier packet_limit 2 login_bytes (omega arith)))) refl
+    (no_login _ (λ e. clash (cc e)) (hub_hears_bytes _ refl (roomier packet_limit 2 login_bytes (omega arith)))) refl
     (more (head_heard b).after (login_heard b) 1 0 None (login_heard b).after
     (login _ (asked Anew refused_start) refl (roomier packet_limit 36 (drop 2 login_bytes) (omega arith)) refl) refl
     (ends (login_heard b).after (refuses WrongPhase (login_heard b).after) None (no_login _ (λ e. clash (cc e)) (hub_deaf refl)) refl))
@@ -111,8 +111,8 @@ hub_heard_lem b =
 seat_heard_lem : (b : Buffers) → Drains SeatReceives (sent_back b) 1 None (rejected b).after
 unfolding encode decode
 seat_heard_lem b =
-    more (sent_back b) (head_back b) 0 1 None (rejected b).after (seat_hears_lem _ refl (roomier packet_limit 2 response_bytes (omega arith))) refl
-    (more (head_back b).after (rejected b) 1 0 None (rejected b).after (seat_hears_lem _ refl (roomier packet_limit 11 (drop 2 response_bytes) (omega arith))) refl
+    more (sent_back b) (head_back b) 0 1 None (rejected b).after (seat_hears_bytes _ refl (roomier packet_limit 2 response_bytes (omega arith))) refl
+    (more (head_back b).after (rejected b) 1 0 None (rejected b).after (seat_hears_bytes _ refl (roomier packet_limit 11 (drop 2 response_bytes) (omega arith))) refl
     (ends (rejected b).after (refuses WrongPhase (rejected b).after) None (seat_deaf refl) refl))
 
 abbrev report : Report

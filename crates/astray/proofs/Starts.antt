@@ -3,7 +3,7 @@ use Rattle.std.proofs.Common.{◌≡◌, ℕ, zero, suc, ◌<◌, ◌≤◌, Boo
 use Rattle.std.specs.List.{AllByRecursion as All}
 use Rattle.std.proofs.lemmas.Bool.{and_parts, ltb-true}
 use Rattle.layout.specs.Limits.{message_limit, packet_limit}
-use Rattle.line.specs.Lines as Line
+use Rattle.rules.specs.State as Line
 use Rattle.message_log.specs.Meaning as Log
 use Rattle.rules.specs.State.{Buffers}
 use Rattle.promises.specs.Book.{Message}
@@ -49,7 +49,7 @@ log_sound session messages byte silent fits placed a =
       places_limit_lem = omega arith;
     }
 
-line_sound : (limit : ℕ) → 1 ≤ limit → Line.Sound (line_of limit [])
+line_sound : (limit : ℕ) → 1 ≤ limit → Line.Steady (line_of limit [])
 line_sound limit h = record { empty = λ e. refl; within = omega arith; size = (omega arith, omega arith); some = h }
 
 pub set_up_lem : (messages : List Message) (limit : ℕ) (b : Buffers) → 1 ≤ limit → Log.taken 0 messages ≤ 65536 → length messages ≤ 1000 → All Fair messages → SetUp (starting_with messages limit b)
@@ -58,9 +58,9 @@ set_up_lem messages limit b h fits placed a =
       shut = refl;
       apart = refl;
       unreported = refl;
-      hub_log_lem = log_sound 1 messages (omega arith) (λ e. absurd (omega arith)) fits placed a;
+      hub_log_sound = log_sound 1 messages (omega arith) (λ e. absurd (omega arith)) fits placed a;
       begun = omega arith;
-      seat_log_lem = log_sound 0 [] (omega arith) (λ e. refl) (omega arith) (omega arith) tt;
+      seat_log_sound = log_sound 0 [] (omega arith) (λ e. refl) (omega arith) (omega arith) tt;
       beginning = inl (refl, refl);
       up_line = line_sound packet_limit (omega arith);
       down_line = line_sound limit h;

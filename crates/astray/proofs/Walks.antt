@@ -14,7 +14,7 @@ use Rattle.rules.specs.Frames.{lack, given, left, Free}
 use Rattle.rules.specs.Hub.{listens, hub_hears, hub_sends}
 use Rattle.rules.specs.Seat.{is_apart, seat_hears}
 use Rattle.rules.specs.Calls.{publish}
-use Rattle.rules.specs.Rounds.{Call, Connect, Publish, HubReceive, SeatReceive, HubSend, Put, Deed, did, took, too_short, Step, publishes, hub_receives, seat_receives, hub_sends_lem, hub_hears_lem, seat_hears_lem}
+use Rattle.rules.specs.Rounds.{Call, Connect, Publish, HubReceive, SeatReceive, HubSend, Put, Deed, did, took, too_short, Step, publishes, hub_receives, seat_receives, hub_sends_one, hub_hears_bytes, seat_hears_bytes}
 use Rattle.promises.specs.Book.{Message}
 use Rattle.promises.specs.Runs.{World, stepped, Run, goes_on}
 use Rattle.astray.specs.Setting.{line_of, fresh_buffers}
@@ -107,7 +107,7 @@ module _ {Rules : Pair → Call → Deed → Type 0} {start : World} (ruled : (s
       (λ b l. record { hub = laid_long packet_limit b.hub_frame (length frame) got l.hub; seat = l.seat; out = l.out })
       (λ b l. ruled (f b).pair HubReceive (hub_heard room (f b).pair) (λ how e. clash (cc e))
       (hub_receives _ (subst (λ (x : Buffers). (too_short x.hub_frame || too_short x.out) ≡ false) (sym (same b)) (or_from _ _ (long_enough b.hub_frame l.hub) (long_enough b.out l.out)))
-      (hub_hears_lem room (hears b) (free b))))
+      (hub_hears_bytes room (hears b) (free b))))
       is r
 
   pub seat_takes_lem : (f g : Buffers → World) (room : ℕ) (frame got : List ℕ) →
@@ -120,7 +120,7 @@ module _ {Rules : Pair → Call → Deed → Type 0} {start : World} (ruled : (s
       (λ b l. record { hub = l.hub; seat = laid_long packet_limit b.seat_frame (length frame) got l.seat; out = l.out })
       (λ b l. ruled (f b).pair SeatReceive (seat_heard room (f b).pair) (λ how e. clash (cc e))
       (seat_receives _ (subst (λ (x : Buffers). (too_short x.seat_frame || too_short x.out) ≡ false) (sym (same b)) (or_from _ _ (long_enough b.seat_frame l.seat) (long_enough b.out l.out)))
-      (seat_hears_lem room (hears b) (free b))))
+      (seat_hears_bytes room (hears b) (free b))))
       is r
 
   -- a call that writes a packet
@@ -135,7 +135,7 @@ module _ {Rules : Pair → Call → Deed → Type 0} {start : World} (ruled : (s
 
   pub hub_writes_lem : (f g : Buffers → World) (v : Value) → ((b : Buffers) → (f b).pair.buffers ≡ b) →
       ((b : Buffers) → stepped (f b) HubSend (hub_sent (f b).pair) ≡ g (wrote v b)) → Reached Rules start f → Reached Rules start g
-  hub_writes_lem f g v same is r = writes f g HubSend (λ b. hub_sent (f b).pair) v same (λ b e. ruled _ _ _ (λ how q. clash (cc q)) (hub_sends_lem e)) is r
+  hub_writes_lem f g v same is r = writes f g HubSend (λ b. hub_sent (f b).pair) v same (λ b e. ruled _ _ _ (λ how q. clash (cc q)) (hub_sends_one e)) is r
 
   pub hub_publishes : (f g : Buffers → World) (m : Message) → ((b : Buffers) → stepped (f b) (Publish m) (did (publish m (f b).pair)) ≡ g b) →
       Reached Rules start f → Reached Rules start g

@@ -81,4 +81,4 @@ set_up_begins g s hs ss us ds e = go (account_of g.user g.computer g.protocol) r
         let b = follows_begins g.seat_log (started g.hub_log) p.0 in
         let t : Pair = record { running = record { log = started g.hub_log; finished = false }; hub = no_hub; seat = no_seat; held = g.seat_log; up = g.up; down = g.down; rows = g.rows; account = a; buffers = g.buffers } in
         let e : t ≡ s = cc in
-        subst SetUp e (record { shut = refl; apart = refl; unreported = refl; hub_log_lem = l.0; begun = l.1; seat_log_lem = ss; beginning = b; up_line = us; down_line = ds; user = w.0; computer = w.1; protocol = w.2 })
+        subst SetUp e (record { shut = refl; apart = refl; unreported = refl; hub_log_sound = l.0; begun = l.1; seat_log_sound = ss; beginning = b; up_line = us; down_line = ds; user = w.0; computer = w.1; protocol = w.2 })

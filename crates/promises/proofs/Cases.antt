@@ -40,7 +40,7 @@ use Rattle.rules.specs.Frames.{lack, given, left, Free, judged}
 use Rattle.rules.specs.Hub.{hub_gone, hub_bad, listens, hub_letters, decided, logs_in, admitted, refills, beat_while_filling, Due, due, none_due, hub_acts, hub_judges, hub_hears, message_place, beat_after, first_number, owes, sent_all, hub_due, Sending, hub_posts, is_shut, hub_sends}
 use Rattle.rules.specs.Seat.{seat_gone, seat_bad, is_apart, seat_letters, suits, in_session, next_number, seat_accepted, seat_rejected, seat_answered, seat_keeps, seat_skips, seat_message, seat_complete, seat_acts, seat_judges, seat_hears, seat_requested, live_due, seat_due, seat_posts, seat_sends}
 use Rattle.rules.specs.Calls.{Done, done, login_of, connected, fetching, connect, publishes, publish, finish, busy, last_session, roll, is_serving, is_live, tell, say, leave, hub_timed, seat_timed, waiting_limit, silence_limit}
-use Rattle.rules.specs.Rounds.{HubReceives, hub_deaf, hub_hears_lem, SeatReceives, seat_deaf, seat_hears_lem}
+use Rattle.rules.specs.Rounds.{HubReceives, hub_deaf, hub_hears_bytes, SeatReceives, seat_deaf, seat_hears_bytes}
 use Rattle.promises.proofs.Fronts.{clash}
 
 -- a call that is refused changes nothing; one that is granted leads to t
@@ -236,7 +236,7 @@ pub data HubHeard (s : Pair) : Outcome Received → Type 0 where
 
 pub hub_heard_lem : (s : Pair) (o : Outcome Received) → HubReceives s o → HubHeard s o
 hub_heard_lem s _ (hub_deaf l) = hub_refused l
-hub_heard_lem s _ (hub_hears_lem room l f) = go (given s.up (lack s.hub.frame)) (took s.up (lack s.hub.frame) room f)
+hub_heard_lem s _ (hub_hears_bytes room l f) = go (given s.up (lack s.hub.frame)) (took s.up (lack s.hub.frame) room f)
   where
     up : LineView
     up = left s.up (lack s.hub.frame) room
@@ -351,7 +351,7 @@ pub data SeatHeard (s : Pair) : Outcome Received → Type 0 where
 
 pub seat_heard_lem : (s : Pair) (o : Outcome Received) → SeatReceives s o → SeatHeard s o
 seat_heard_lem s _ (seat_deaf l) = seat_refused l
-seat_heard_lem s _ (seat_hears_lem room l f) = go (given s.down (lack s.seat.frame)) (took s.down (lack s.seat.frame) room f)
+seat_heard_lem s _ (seat_hears_bytes room l f) = go (given s.down (lack s.seat.frame)) (took s.down (lack s.seat.frame) room f)
   where
     judges : (b : ℕ) (bs : List ℕ) → Took s.down (lack s.seat.frame) (b ∷ bs) (left s.down (lack s.seat.frame) room) → (r : Result Answer PacketFault) → judged (seat_letters s.seat.phase s.seat.fetch) (s.seat.frame ++ (b ∷ bs)) ≡ r → SeatHeard s (seat_judges r (b ∷ bs) (s.seat.frame ++ (b ∷ bs)) (left s.down (lack s.seat.frame) room) s)
     judges b bs t (Ok part) e = seat_part b bs _ l t e

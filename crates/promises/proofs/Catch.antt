@@ -18,7 +18,7 @@ use Rattle.layout.specs.declared.statuses.Status.TheVariants.{Accepted}
 use Rattle.packet.specs.Values.{Value, Valid, login_request, login_response, sequenced, encode, letter}
 use Rattle.packet.specs.Decoding.{part, whole}
 use Rattle.line.specs.Lines.{LineView, handed, fits}
-use Rattle.line.specs.Lines as Line
+use Rattle.rules.specs.State as Line
 use Rattle.message_log.specs.Meaning.{Meaning, count, taken, room, begun, size_limit}
 use Rattle.message_log.specs.Meaning as Log
 use Rattle.message_log.specs.Calls.{has, takes}
@@ -477,7 +477,7 @@ suits_ok aq x po (inl e) = cond-true _ _ _ (eq-eqb aq 0 e) ∙ not_from_false (e
 suits_ok aq x po (inr e) = cond-false _ _ _ (ne_eqb aq 0 (λ z. omega arith)) ∙ eq-eqb x aq (sym e)
 
 -- catch-up, from a state that keeps the invariants and whose lines are sound
-pub catches_up : (b : Book) (n : Option Note) (s t : Pair) (how : How) → Sound b s → Truth n b s → Line.Sound s.up → Line.Sound s.down → Able how s → GrantedRounds Step (rounds_needed how s) (connected how s) t → Level s.running.log t
+pub catches_up : (b : Book) (n : Option Note) (s t : Pair) (how : How) → Sound b s → Truth n b s → Line.Steady s.up → Line.Steady s.down → Able how s → GrantedRounds Step (rounds_needed how s) (connected how s) t → Level s.running.log t
 catches_up b n s t how i tr ul dl ab rs =
     let c : Pair = connected how s in
     let ask : Asked (view c) = connect_asked b s how ab.no_fetch i in

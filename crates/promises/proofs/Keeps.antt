@@ -32,7 +32,7 @@ use Rattle.rules.specs.Frames.{lack, judged}
 use Rattle.rules.specs.Hub.{hub_gone, first_number, owes, Sending, hub_sends}
 use Rattle.rules.specs.Seat.{in_session, next_number, is_apart, seat_letters, seat_sends}
 use Rattle.rules.specs.Calls.{Done, cut, counted, hub_timed, tick, is_serving, connected}
-use Rattle.rules.specs.Rounds.{HubReceives, SeatReceives, Drains, ends, more, Rounds, Call, Connect, Cut, Publish, Finish, Roll, Tell, Say, Leave, HubReceive, SeatReceive, HubSend, SeatSend, Tick, Round, Answer, Did, Deed, Step, short_buffer, connects, cuts, publishes, finishes, rolls, tells, says, leaves, hub_receives, seat_receives, hub_sends_lem, seat_sends_lem, ticks, rounds, refusal}
+use Rattle.rules.specs.Rounds.{HubReceives, SeatReceives, Drains, ends, more, Rounds, Call, Connect, Cut, Publish, Finish, Roll, Tell, Say, Leave, HubReceive, SeatReceive, HubSend, SeatSend, Tick, Round, Answer, Did, Deed, Step, short_buffer, connects, cuts, publishes, finishes, rolls, tells, says, leaves, hub_receives, seat_receives, hub_sends_one, seat_sends_one, ticks, rounds, refusal}
 use Rattle.promises.specs.Book.{Message, Book, opened, added, turned, is_granted, noted}
 use Rattle.promises.specs.Runs.{Begins, World, stepped, Run, begins, goes_on, SetUp, at_first, History}
 use Rattle.promises.specs.Promises.{NeverWrong, NeverShorter}
@@ -315,8 +315,8 @@ step_keeps b s _ _ (says m e) i = tried_keep b b s _ _ _ (say_tried m s) (λ f. 
 step_keeps b s _ _ (leaves e) i = tried_keep b b s _ _ _ (leave_tried s) (λ f. same_log b s _ refl (to_apart b _ _ _ _ _ _ _ _ i)) (λ a. b) (λ r. refl) refl i
 step_keeps b s _ _ (hub_receives o e r) i = hub_receives_keep b s o r i
 step_keeps b s _ _ (seat_receives o e r) i = seat_receives_keep b s o r i
-step_keeps b s _ _ (hub_sends_lem e) i = hub_sent_keep b s (hub_sends s) (hub_sent_lem s) i
-step_keeps b s _ _ (seat_sends_lem e) i = seat_sent_keep b s (seat_sends s) (seat_sent s) i
+step_keeps b s _ _ (hub_sends_one e) i = hub_sent_keep b s (hub_sends s) (hub_sent_lem s) i
+step_keeps b s _ _ (seat_sends_one e) i = seat_sent_keep b s (seat_sends s) (seat_sent s) i
 step_keeps b s _ _ (ticks e) i = ticks_keep b s i
 step_keeps b s _ _ (rounds p w t e r) i = rounds_keep b s p w t r i
 
@@ -343,10 +343,10 @@ set_up_sound s u =
       later = λ x g. opened_none k x (λ e. omega arith);
       none = opened_none k 0 (λ e. omega (arith, u.begun));
       begun = u.begun;
-      small = omega (arith, u.hub_log_lem.byte);
-      few = u.hub_log_lem.placed;
-      places = u.hub_log_lem.places_limit_lem;
-      short = u.hub_log_lem.short;
+      small = omega (arith, u.hub_log_sound.byte);
+      few = u.hub_log_sound.placed;
+      places = u.hub_log_sound.places_limit_lem;
+      short = u.hub_log_sound.short;
       held = ⊎_elim (λ z. subst (λ ms. Begins ms ((opened k).lists s.held.session)) (sym z.1) ((opened k).lists s.held.session, refl))
           (λ z. subst (λ x. Begins s.held.messages ((opened k).lists x)) (sym z.0) (subst (λ ms. Begins s.held.messages ms) (sym (opened_at k)) z.1)) u.beginning;
       older = ⊎_elim (λ z. omega (arith, z.0)) (λ z. omega (arith, z.0)) u.beginning;

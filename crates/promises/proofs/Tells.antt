@@ -35,7 +35,7 @@ use Rattle.rules.specs.Frames.{lack, judged}
 use Rattle.rules.specs.Hub.{hub_gone, hub_letters, first_number, owes, Sending, hub_sends}
 use Rattle.rules.specs.Seat.{seat_gone, in_session, next_number, is_apart, seat_letters, seat_sends}
 use Rattle.rules.specs.Calls.{Done, cut, counted, hub_timed, tick, busy, is_serving, is_live, connected, fetch_end, asked_session}
-use Rattle.rules.specs.Rounds.{HubReceives, SeatReceives, Drains, ends, more, Rounds, Call, Connect, Cut, Publish, Finish, Roll, Tell, Say, Leave, HubReceive, SeatReceive, HubSend, SeatSend, Tick, Round, Answer, Did, Deed, Step, short_buffer, connects, cuts, publishes, finishes, rolls, tells, says, leaves, hub_receives, seat_receives, hub_sends_lem, seat_sends_lem, ticks, rounds, refusal}
+use Rattle.rules.specs.Rounds.{HubReceives, SeatReceives, Drains, ends, more, Rounds, Call, Connect, Cut, Publish, Finish, Roll, Tell, Say, Leave, HubReceive, SeatReceive, HubSend, SeatSend, Tick, Round, Answer, Did, Deed, Step, short_buffer, connects, cuts, publishes, finishes, rolls, tells, says, leaves, hub_receives, seat_receives, hub_sends_one, seat_sends_one, ticks, rounds, refusal}
 use Rattle.promises.specs.Book.{Message, Book, opened, added, turned, is_granted, noted}
 use Rattle.promises.specs.Runs.{Begins, Note, as_of, accepts, tells_all, or_else, written, renoted, World, stepped, Run, begins, goes_on, SetUp, at_first, History}
 use Rattle.promises.specs.Promises.{Holds, InStepIsTrue}
@@ -554,8 +554,8 @@ step_tru o b s _ _ (says m e) i tr = tried_tru o o b b s _ _ _ (say_tried m s) (
 step_tru o b s _ _ (leaves e) i tr = tried_tru o o b b s _ _ _ (leave_tried s) (λ f. apart_tru o b s (seat_to Apart (seat_writes (logout_request X.Done []) s)) refl refl refl refl tr) (λ a. b) (λ a. o) (λ x. (refl, refl)) refl refl tr
 step_tru o b s _ _ (hub_receives p e r) i tr = hub_receives_tru o b s p r i tr
 step_tru o b s _ _ (seat_receives p e r) i tr = seat_receives_tru o b s p r i tr
-step_tru o b s _ _ (hub_sends_lem e) i tr = hub_sent_tru o b s (hub_sends s) (hub_sent_lem s) i tr
-step_tru o b s _ _ (seat_sends_lem e) i tr = seat_sent_tru o b s (seat_sends s) (seat_sent s) tr
+step_tru o b s _ _ (hub_sends_one e) i tr = hub_sent_tru o b s (hub_sends s) (hub_sent_lem s) i tr
+step_tru o b s _ _ (seat_sends_one e) i tr = seat_sent_tru o b s (seat_sends s) (seat_sent s) tr
 step_tru o b s _ _ (ticks e) i tr = seat_timed_tru o b (hub_timed s.hub.phase (counted s)) (tick s) (seat_timed_lem (hub_timed s.hub.phase (counted s))) (hub_timed_tru o b (counted s) (hub_timed s.hub.phase (counted s)) (hub_timed_lem s.hub.phase (counted s)) tr)
 step_tru o b s _ _ (rounds p w t e r) i tr = rounds_tru o b s p w t r i tr
 
@@ -564,7 +564,7 @@ run_tru begins i tr = tr
 run_tru (goes_on {w = m} r c d h) i tr = step_tru m.note m.book m.pair c d h (run_keeps r i).0 (run_tru r i tr)
 
 pub set_up_tru : (s : Pair) → SetUp s → Truth None (opened s.running.log) s
-set_up_tru s u = record { notes = λ k e. clash (cc); truth = λ e. clash (cc (e, u.unreported)); user = u.user; computer = u.computer; protocol = u.protocol; few = u.seat_log_lem.placed; places = u.seat_log_lem.places_limit_lem; way = gone u.apart }
+set_up_tru s u = record { notes = λ k e. clash (cc); truth = λ e. clash (cc (e, u.unreported)); user = u.user; computer = u.computer; protocol = u.protocol; few = u.seat_log_sound.placed; places = u.seat_log_sound.places_limit_lem; way = gone u.apart }
 
 pub history_tru : (o : Pair) (w : World) → History Step o w → Truth w.note w.book w.pair
 history_tru o w (u, r) = run_tru r (set_up_sound o u) (set_up_tru o u)

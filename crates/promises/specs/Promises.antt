@@ -4,7 +4,7 @@ use Rattle.layout.specs.declared.statuses.Status.TheVariants.{Accepted}
 use Rattle.message_log.specs.Meaning.{Meaning, count, taken, room}
 use Rattle.account.specs.Logins.{status_for}
 use Rattle.rules.specs.declared.phases.How.{How}
-use Rattle.line.specs.Lines as Line
+use Rattle.rules.specs.State as Line
 use Rattle.message_log.specs.Meaning as Log
 use Rattle.rules.specs.State.{Pair}
 use Rattle.rules.specs.SetUp.{Parts, set_up}
@@ -16,7 +16,7 @@ use Rattle.promises.specs.Runs.{Begins, Note, World, Run, GrantedRounds, SetUp, 
 
 -- Set-up, of logs and lines that keep their laws, makes a pair of which the promises speak.
 abbrev pub SetUpBegins : Type 0
-SetUpBegins = (g : Parts) (s : Pair) → Log.Sound g.hub_log → Log.Sound g.seat_log → Line.Sound g.up → Line.Sound g.down → set_up g ≡ Ok s → SetUp s
+SetUpBegins = (g : Parts) (s : Pair) → Log.Sound g.hub_log → Log.Sound g.seat_log → Line.Steady g.up → Line.Steady g.down → set_up g ≡ Ok s → SetUp s
 
 -- (a) After every run the seat's log is a beginning of what was published in the session that it bears,
 abbrev pub NeverWrong : (Pair → Call → Deed → Type 0) → Type 0

@@ -4,7 +4,7 @@ use Rattle.std.specs.Prelude.{◌≡◌, ℕ, suc, ◌+◌, ◌<◌, Bool, true,
 use Rattle.layout.specs.declared.statuses.Status.{Status}
 use Rattle.layout.specs.declared.statuses.Status.TheVariants.{Accepted, UnknownUser, SessionUnavailable, InvalidNumber, WrongVersion, WrongProtocol, AlreadyLoggedIn}
 use Rattle.packet.specs.Values.{Value, login_request, login_response, sequenced, unsequenced, synchronization_complete, retransmission_request, logout_request, good_bye, end_of_session, hub_heartbeat, seat_heartbeat, test}
-use Rattle.line.specs.Lines as Line
+use Rattle.rules.specs.State as Line
 use Rattle.message_log.specs.Meaning as Log
 use Rattle.rules.specs.declared.phases.HubPhase.TheVariants.{Shut}
 use Rattle.rules.specs.declared.phases.SeatPhase.TheVariants.{Apart}
@@ -106,13 +106,13 @@ pub record SetUp (s : Pair) : Type 0 where
   pub shut : s.hub.phase ≡ Shut
   pub apart : s.seat.phase ≡ Apart
   pub unreported : s.seat.in_step ≡ false
-  pub hub_log_lem : Log.Sound s.running.log
+  pub hub_log_sound : Log.Sound s.running.log
   pub begun : 0 < s.running.log.session
-  pub seat_log_lem : Log.Sound s.held
+  pub seat_log_sound : Log.Sound s.held
   -- the seat's log is empty without a session, or a beginning of the hub's under the same session
   pub beginning : ((s.held.session ≡ 0) × (s.held.messages ≡ [])) ⊎ ((s.held.session ≡ s.running.log.session) × Begins s.held.messages s.running.log.messages)
-  pub up_line : Line.Sound s.up
-  pub down_line : Line.Sound s.down
+  pub up_line : Line.Steady s.up
+  pub down_line : Line.Steady s.down
   pub user : length s.account.user ≡ 5
   pub computer : length s.account.computer ≡ 8
   pub protocol : length s.account.protocol ≡ 8

@@ -7,7 +7,7 @@ use Rattle.rules.specs.declared.phases.HubPhase.TheVariants.{Serving}
 use Rattle.rules.specs.declared.phases.SeatPhase.TheVariants.{Live}
 use Rattle.rules.specs.State.{Pair}
 use Rattle.rules.specs.Changes.{with_up, with_seat}
-use Rattle.rules.specs.Rounds.{hub_deaf, hub_hears_lem, seat_hears_lem, ends, more, Round, Deed, Step, rounds}
+use Rattle.rules.specs.Rounds.{hub_deaf, hub_hears_bytes, seat_hears_bytes, ends, more, Round, Deed, Step, rounds}
 use Rattle.rules.specs.Roomiest.{roomiest}
 use Rattle.rules.specs.Laws.{Lined, RoundsDiffer}
 use Rattle.rules.specs.Examples.{pair, log}
@@ -38,11 +38,11 @@ stingy = (
     heard = _;
     taken = _;
     hub_drains =
-        more tight _ 0 _ _ _ (hub_hears_lem 0 refl (record { grows = omega arith; within = omega arith; empty = λ e. clash (cc) })) refl
-        (more _ _ 1 _ _ _ (hub_hears_lem 0 refl (record { grows = omega arith; within = omega arith; empty = λ e. clash (cc) })) refl
+        more tight _ 0 _ _ _ (hub_hears_bytes 0 refl (record { grows = omega arith; within = omega arith; empty = λ e. clash (cc) })) refl
+        (more _ _ 1 _ _ _ (hub_hears_bytes 0 refl (record { grows = omega arith; within = omega arith; empty = λ e. clash (cc) })) refl
         (ends _ _ None (hub_deaf refl) refl));
     hub_wrote = refl;
-    seat_drains = ends _ _ None (seat_hears_lem packet_limit refl (record { grows = omega arith; within = omega arith; empty = λ e. refl })) refl;
+    seat_drains = ends _ _ None (seat_hears_bytes packet_limit refl (record { grows = omega arith; within = omega arith; empty = λ e. refl })) refl;
     seat_sent = refl;
   }),
   refl,

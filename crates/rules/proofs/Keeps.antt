@@ -1,4 +1,4 @@
--- Sound lines stay sound and buffers last, from call to call.
+-- Steady lines stay sound and buffers last, from call to call.
 use Rattle.std.proofs.Common.{◌≡◌, ℕ, ◌+◌, ◌≤◌, Bool, true, false, cond, ◌&&◌, eqb, ltb, leb, List, [], ◌∷◌, ◌++◌, length, get_or, drop, Some, None, Ok, Err, Option, Result, sym, refl, ap, subst, arith, length-append, length-drop, length-take}
 use Rattle.std.proofs.lemmas.Bool.{cond_both, ltb-false}
 use Rattle.fault.specs.declared.faults.Fault.{Fault}
@@ -18,7 +18,7 @@ use Rattle.packet.specs.Values.{Value, encode, sequenced, unsequenced, synchroni
 use Rattle.packet.specs.Decoding.{Answer, part, whole, decode}
 use Rattle.packet.proofs.Fronts.{decode_short}
 use Rattle.packet.proofs.Back.{length_encode}
-use Rattle.line.specs.Lines.{LineView, Sound, joined, cleared, fits}
+use Rattle.line.specs.Lines.{LineView, joined, cleared, fits}
 use Rattle.line.specs.Memory.{laid}
 use Rattle.message_log.specs.Meaning.{count, nth, added}
 use Rattle.message_log.specs.Calls.{fronted, takes, has}
@@ -33,13 +33,13 @@ use Rattle.rules.specs.declared.answers.Received.{Received}
 use Rattle.rules.specs.declared.answers.Received.TheVariants.{Acted}
 use Rattle.rules.specs.declared.answers.Sent.{Sent}
 use Rattle.rules.specs.declared.answers.Report.{Report}
-use Rattle.rules.specs.State.{Buffers, Pair, Outcome}
+use Rattle.rules.specs.State.{Steady, Buffers, Pair, Outcome}
 use Rattle.rules.specs.Changes.{with_log, grants, refuses, hub_to, hub_writes, hub_took, hub_leaves, seat_writes, seat_took, seat_to, wiped}
 use Rattle.rules.specs.Frames.{lack, given, left, Free, among, judged}
 use Rattle.rules.specs.Hub.{hub_gone, hub_letters, decided, admitted, hub_acts, hub_judges, hub_hears, Due, due, none_due, beat_after, hub_due, sent_all, Sending, is_shut, hub_posts, hub_sends}
 use Rattle.rules.specs.Seat.{seat_gone, seat_letters, is_apart, next_number, seat_keeps, seat_skips, seat_complete, seat_acts, seat_judges, seat_hears, seat_due, seat_requested, live_due, seat_posts, seat_sends}
 use Rattle.rules.specs.Calls.{done, asked, asking, login_of, connect, connected, publishes, busy, last_session, is_serving, is_live, tick, hub_timed, counted, waiting_limit, silence_limit}
-use Rattle.rules.specs.Rounds.{HubReceives, hub_deaf, hub_hears_lem, SeatReceives, seat_deaf, seat_hears_lem, Drains, ends, more, Rounds, Call, Deed, Step, short_buffer, connects, cuts, publishes as publishing, finishes, rolls, tells, says, leaves, hub_receives, seat_receives, hub_sends_lem, seat_sends_lem, ticks, rounds}
+use Rattle.rules.specs.Rounds.{HubReceives, hub_deaf, hub_hears_bytes, SeatReceives, seat_deaf, seat_hears_bytes, Drains, ends, more, Rounds, Call, Deed, Step, short_buffer, connects, cuts, publishes as publishing, finishes, rolls, tells, says, leaves, hub_receives, seat_receives, hub_sends_one, seat_sends_one, ticks, rounds}
 use Rattle.rules.specs.Laws.{NoShorter, LinesStaySound, BuffersLast, FramesStayParts, FrameBuffersKeep}
 use Rattle.rules.proofs.Cases.{Act, hub_acts_lem, seat_acts_lem}
 use Rattle.rules.proofs.Frames.{Filled, filled_same, filled_none, filled_trans, filled_laid, placed_part, given_short}
@@ -56,8 +56,8 @@ abbrev sight : Pair → Sight
 sight s = record { up = s.up; down = s.down; hub_frame = s.hub.frame; seat_frame = s.seat.frame; buffers = s.buffers }
 
 pub record Kept (x y : Sight) : Type 0 where
-  pub up : Sound x.up → Sound y.up
-  pub down : Sound x.down → Sound y.down
+  pub up : Steady x.up → Steady y.up
+  pub down : Steady x.down → Steady y.down
   pub hub : Filled x.hub_frame x.buffers.hub_frame y.hub_frame y.buffers.hub_frame
   pub seat : Filled x.seat_frame x.buffers.seat_frame y.seat_frame y.buffers.seat_frame
   pub out : length x.buffers.out ≤ length y.buffers.out
@@ -93,7 +93,7 @@ either : {R : Type 0} (s : Pair) (b : Bool) (x y : Outcome R) → Keeps s x.afte
 either s = one_of (λ o. o.after) s
 
 -- a packet behind what waits
-joined_sound : (v : LineView) (x : Value) → Sound v → Sound (joined v (encode x))
+joined_sound : (v : LineView) (x : Value) → Steady v → Steady (joined v (encode x))
 joined_sound v x i =
     record {
       empty = λ e. absurd (omega (arith, length_encode x, length-append v.waiting (encode x), ap length e));
@@ -102,10 +102,10 @@ joined_sound v x i =
       some = i.some;
     }
 
-cleared_sound : (v : LineView) → Sound v → Sound (cleared v)
+cleared_sound : (v : LineView) → Steady v → Steady (cleared v)
 cleared_sound v i = record { empty = λ e. refl; within = omega arith; size = i.size; some = i.some }
 
-left_sound : (v : LineView) (n room : ℕ) → Free v n room → Sound v → Sound (left v n room)
+left_sound : (v : LineView) (n room : ℕ) → Free v n room → Steady v → Steady (left v n room)
 left_sound v n room f i = record { empty = f.empty; within = f.within; size = i.size; some = i.some }
 
 fronted_longer : (m b : List ℕ) → length b ≤ length (fronted m b)
@@ -169,34 +169,34 @@ seat_acts_keep p v =
     (λ s. completed _ s) p v
 
 -- the bytes taken are no more than the frame lacked, and what is then in the frame is a part
-hub_took_keeps : (got frame : List ℕ) (up : LineView) (s : Pair) → (Sound s.up → Sound up) → length got ≤ lack s.hub.frame → decode frame ≡ Ok part → Keeps s (hub_took got frame up s)
+hub_took_keeps : (got frame : List ℕ) (up : LineView) (s : Pair) → (Steady s.up → Steady up) → length got ≤ lack s.hub.frame → decode frame ≡ Ok part → Keeps s (hub_took got frame up s)
 hub_took_keeps got frame up s h l e =
     record { up = h; down = λ x. x; hub = filled_laid s.hub.frame s.buffers.hub_frame got frame l e; seat = seat_same s; out = omega arith }
 
-seat_took_keeps : (got frame : List ℕ) (down : LineView) (s : Pair) → (Sound s.down → Sound down) → length got ≤ lack s.seat.frame → decode frame ≡ Ok part → Keeps s (seat_took got frame down s)
+seat_took_keeps : (got frame : List ℕ) (down : LineView) (s : Pair) → (Steady s.down → Steady down) → length got ≤ lack s.seat.frame → decode frame ≡ Ok part → Keeps s (seat_took got frame down s)
 seat_took_keeps got frame down s h l e =
     record { up = λ x. x; down = h; hub = hub_same s; seat = filled_laid s.seat.frame s.buffers.seat_frame got frame l e; out = omega arith }
 
 no_frame : decode [] ≡ Ok part
 no_frame = decode_short [] (omega arith)
 
-hub_judges_keep : (r : Result Answer PacketFault) (got frame : List ℕ) (up : LineView) (s : Pair) → (Sound s.up → Sound up) → length got ≤ lack s.hub.frame → (r ≡ Ok part → decode frame ≡ Ok part) → Keeps s (hub_judges r got frame up s).after
+hub_judges_keep : (r : Result Answer PacketFault) (got frame : List ℕ) (up : LineView) (s : Pair) → (Steady s.up → Steady up) → length got ≤ lack s.hub.frame → (r ≡ Ok part → decode frame ≡ Ok part) → Keeps s (hub_judges r got frame up s).after
 hub_judges_keep (Ok part) got frame up s h l e = hub_took_keeps got frame up s h l (e refl)
 hub_judges_keep (Ok (whole v)) got frame up s h l e = keeps_trans (hub_took_keeps got [] up s h l no_frame) (hub_acts_keep s.hub.phase v (hub_took got [] up s))
 hub_judges_keep (Err f) got frame up s h l e = keeps_trans (hub_took_keeps got [] up s h l no_frame) (hub_gone_keeps _ (hub_took got [] up s))
 
-hub_hears_keep : (got : List ℕ) (up : LineView) (s : Pair) → (Sound s.up → Sound up) → length got ≤ lack s.hub.frame → Keeps s (hub_hears got up s).after
+hub_hears_keep : (got : List ℕ) (up : LineView) (s : Pair) → (Steady s.up → Steady up) → length got ≤ lack s.hub.frame → Keeps s (hub_hears got up s).after
 hub_hears_keep [] up s h l = record { up = h; down = λ x. x; hub = hub_same s; seat = seat_same s; out = omega arith }
 hub_hears_keep (b ∷ bs) up s h l =
     let frame : List ℕ = s.hub.frame ++ (b ∷ bs) in
     hub_judges_keep (judged (hub_letters s.hub.phase) frame) (b ∷ bs) frame up s h l (λ e. placed_part (among (hub_letters s.hub.phase) (get_or frame 2 0)) (decode frame) e)
 
-seat_judges_keep : (r : Result Answer PacketFault) (got frame : List ℕ) (down : LineView) (s : Pair) → (Sound s.down → Sound down) → length got ≤ lack s.seat.frame → (r ≡ Ok part → decode frame ≡ Ok part) → Keeps s (seat_judges r got frame down s).after
+seat_judges_keep : (r : Result Answer PacketFault) (got frame : List ℕ) (down : LineView) (s : Pair) → (Steady s.down → Steady down) → length got ≤ lack s.seat.frame → (r ≡ Ok part → decode frame ≡ Ok part) → Keeps s (seat_judges r got frame down s).after
 seat_judges_keep (Ok part) got frame down s h l e = seat_took_keeps got frame down s h l (e refl)
 seat_judges_keep (Ok (whole v)) got frame down s h l e = keeps_trans (seat_took_keeps got [] down s h l no_frame) (seat_acts_keep s.seat.phase v (seat_took got [] down s))
 seat_judges_keep (Err f) got frame down s h l e = keeps_trans (seat_took_keeps got [] down s h l no_frame) (seat_gone_keeps _ (seat_took got [] down s))
 
-seat_hears_keep : (got : List ℕ) (down : LineView) (s : Pair) → (Sound s.down → Sound down) → length got ≤ lack s.seat.frame → Keeps s (seat_hears got down s).after
+seat_hears_keep : (got : List ℕ) (down : LineView) (s : Pair) → (Steady s.down → Steady down) → length got ≤ lack s.seat.frame → Keeps s (seat_hears got down s).after
 seat_hears_keep [] down s h l = record { up = λ x. x; down = h; hub = hub_same s; seat = seat_same s; out = omega arith }
 seat_hears_keep (b ∷ bs) down s h l =
     let frame : List ℕ = s.seat.frame ++ (b ∷ bs) in
@@ -205,13 +205,13 @@ seat_hears_keep (b ∷ bs) down s h l =
 
 pub hub_receives_keep : (s : Pair) (o : Outcome Received) → HubReceives s o → Keeps s o.after
 hub_receives_keep s _ (hub_deaf e) = keeps_same s
-hub_receives_keep s _ (hub_hears_lem room e f) =
+hub_receives_keep s _ (hub_hears_bytes room e f) =
     let n : ℕ = lack s.hub.frame in
     hub_hears_keep (given s.up n) (left s.up n room) s (left_sound s.up n room f) (given_short s.up n)
 
 pub seat_receives_keep : (s : Pair) (o : Outcome Received) → SeatReceives s o → Keeps s o.after
 seat_receives_keep s _ (seat_deaf e) = keeps_same s
-seat_receives_keep s _ (seat_hears_lem room e f) =
+seat_receives_keep s _ (seat_hears_bytes room e f) =
     let n : ℕ = lack s.seat.frame in
     seat_hears_keep (given s.down n) (left s.down n room) s (left_sound s.down n room f) (given_short s.down n)
 
@@ -348,8 +348,8 @@ step_keeps s _ _ (says m e) = written_keeps (ltb message_limit (length m)) (fits
 step_keeps s _ _ (leaves e) = leave_keeps (fits s.up (encode (logout_request X.Done []))) (is_apart s.seat.phase) s (seat_to Apart (seat_writes (logout_request X.Done []) s)) (seat_writes_keeps (logout_request X.Done []) s)
 step_keeps s _ _ (hub_receives o e r) = hub_receives_keep s o r
 step_keeps s _ _ (seat_receives o e r) = seat_receives_keep s o r
-step_keeps s _ _ (hub_sends_lem e) = hub_sends_keep s
-step_keeps s _ _ (seat_sends_lem e) = seat_sends_keep s
+step_keeps s _ _ (hub_sends_one e) = hub_sends_keep s
+step_keeps s _ _ (seat_sends_one e) = seat_sends_keep s
 step_keeps s _ _ (ticks e) = tick_keeps s
 step_keeps s _ _ (rounds report w t e r) = round_keeps s report w t r
 

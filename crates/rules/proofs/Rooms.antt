@@ -12,7 +12,7 @@ use Rattle.rules.specs.Frames.{lack, given, left}
 use Rattle.rules.specs.Hub.{hub_hears, hub_sends}
 use Rattle.rules.specs.Seat.{seat_hears, seat_sends}
 use Rattle.rules.specs.Calls.{done, connect, cut, publish, finish, roll, tell, say, leave, tick}
-use Rattle.rules.specs.Rounds.{HubReceives, hub_deaf, hub_hears_lem, SeatReceives, seat_deaf, seat_hears_lem, going, Drains, ends, more, Rounds, Call, Connect, Cut, Publish, Finish, Roll, Tell, Say, Leave, HubReceive, SeatReceive, HubSend, SeatSend, Tick, Round, Took, Put, Went, refusal, lent_short, Deed, did, took, Step, short_buffer, connects, cuts, publishes, finishes, rolls, tells, says, leaves, hub_receives, seat_receives, hub_sends_lem, seat_sends_lem, ticks, rounds}
+use Rattle.rules.specs.Rounds.{HubReceives, hub_deaf, hub_hears_bytes, SeatReceives, seat_deaf, seat_hears_bytes, going, Drains, ends, more, Rounds, Call, Connect, Cut, Publish, Finish, Roll, Tell, Say, Leave, HubReceive, SeatReceive, HubSend, SeatSend, Tick, Round, Took, Put, Went, refusal, lent_short, Deed, did, took, Step, short_buffer, connects, cuts, publishes, finishes, rolls, tells, says, leaves, hub_receives, seat_receives, hub_sends_one, seat_sends_one, ticks, rounds}
 use Rattle.rules.specs.Laws.{roomless, Alike, OneOutcome, hub_gave, seat_gave, drains_gave, gave, OnlyRoomsFree}
 use Rattle.rules.proofs.Blind.{hub_hears_blind, seat_hears_blind}
 use Rattle.rules.proofs.Frames.{clash}
@@ -24,9 +24,9 @@ pub record Close (o p : Outcome Received) : Type 0 where
 
 hub_close : (s : Pair) (o p : Outcome Received) → HubReceives s o → HubReceives s p → Close o p
 hub_close s _ _ (hub_deaf e) (hub_deaf f) = record { answer = refl; after = refl }
-hub_close s _ _ (hub_deaf e) (hub_hears_lem room f free) = clash (cc)
-hub_close s _ _ (hub_hears_lem room e free) (hub_deaf f) = clash (cc)
-hub_close s _ _ (hub_hears_lem a e free) (hub_hears_lem b f free') =
+hub_close s _ _ (hub_deaf e) (hub_hears_bytes room f free) = clash (cc)
+hub_close s _ _ (hub_hears_bytes room e free) (hub_deaf f) = clash (cc)
+hub_close s _ _ (hub_hears_bytes a e free) (hub_hears_bytes b f free') =
     let n : ℕ = lack s.hub.frame in
     let x = hub_hears_blind (given s.up n) (left s.up n a) s in
     let y = hub_hears_blind (given s.up n) (left s.up n b) s in
@@ -34,9 +34,9 @@ hub_close s _ _ (hub_hears_lem a e free) (hub_hears_lem b f free') =
 
 seat_close : (s : Pair) (o p : Outcome Received) → SeatReceives s o → SeatReceives s p → Close o p
 seat_close s _ _ (seat_deaf e) (seat_deaf f) = record { answer = refl; after = refl }
-seat_close s _ _ (seat_deaf e) (seat_hears_lem room f free) = clash (cc)
-seat_close s _ _ (seat_hears_lem room e free) (seat_deaf f) = clash (cc)
-seat_close s _ _ (seat_hears_lem a e free) (seat_hears_lem b f free') =
+seat_close s _ _ (seat_deaf e) (seat_hears_bytes room f free) = clash (cc)
+seat_close s _ _ (seat_hears_bytes room e free) (seat_deaf f) = clash (cc)
+seat_close s _ _ (seat_hears_bytes a e free) (seat_hears_bytes b f free') =
     let n : ℕ = lack s.seat.frame in
     let x = seat_hears_blind (given s.down n) (left s.down n a) s in
     let y = seat_hears_blind (given s.down n) (left s.down n b) s in
@@ -44,17 +44,17 @@ seat_close s _ _ (seat_hears_lem a e free) (seat_hears_lem b f free') =
 
 hub_same : (s : Pair) (o p : Outcome Received) (x : HubReceives s o) (y : HubReceives s p) (xs ys : List ℕ) → hub_gave s o x ++ xs ≡ hub_gave s p y ++ ys → (o ≡ p) × (xs ≡ ys)
 hub_same s _ _ (hub_deaf e) (hub_deaf f) xs ys q = (refl, q)
-hub_same s _ _ (hub_deaf e) (hub_hears_lem room f free) xs ys q = clash (cc)
-hub_same s _ _ (hub_hears_lem room e free) (hub_deaf f) xs ys q = clash (cc)
-hub_same s _ _ (hub_hears_lem a e free) (hub_hears_lem b f free') xs ys q =
+hub_same s _ _ (hub_deaf e) (hub_hears_bytes room f free) xs ys q = clash (cc)
+hub_same s _ _ (hub_hears_bytes room e free) (hub_deaf f) xs ys q = clash (cc)
+hub_same s _ _ (hub_hears_bytes a e free) (hub_hears_bytes b f free') xs ys q =
     let n : ℕ = lack s.hub.frame in
     let r : a ≡ b = cc in (ap (λ i. hub_hears (given s.up n) (left s.up n i) s) r, cc)
 
 seat_same : (s : Pair) (o p : Outcome Received) (x : SeatReceives s o) (y : SeatReceives s p) (xs ys : List ℕ) → seat_gave s o x ++ xs ≡ seat_gave s p y ++ ys → (o ≡ p) × (xs ≡ ys)
 seat_same s _ _ (seat_deaf e) (seat_deaf f) xs ys q = (refl, q)
-seat_same s _ _ (seat_deaf e) (seat_hears_lem room f free) xs ys q = clash (cc)
-seat_same s _ _ (seat_hears_lem room e free) (seat_deaf f) xs ys q = clash (cc)
-seat_same s _ _ (seat_hears_lem a e free) (seat_hears_lem b f free') xs ys q =
+seat_same s _ _ (seat_deaf e) (seat_hears_bytes room f free) xs ys q = clash (cc)
+seat_same s _ _ (seat_hears_bytes room e free) (seat_deaf f) xs ys q = clash (cc)
+seat_same s _ _ (seat_hears_bytes a e free) (seat_hears_bytes b f free') xs ys q =
     let n : ℕ = lack s.seat.frame in
     let r : a ≡ b = cc in (ap (λ i. seat_hears (given s.down n) (left s.down n i) s) r, cc)
 
@@ -142,8 +142,8 @@ sorted s _ _ (says m e) = went e refl
 sorted s _ _ (leaves e) = went e refl
 sorted s _ _ (hub_receives o e r) = went e (o, r, refl, refl)
 sorted s _ _ (seat_receives o e r) = went e (o, r, refl, refl)
-sorted s _ _ (hub_sends_lem e) = went e refl
-sorted s _ _ (seat_sends_lem e) = went e refl
+sorted s _ _ (hub_sends_one e) = went e refl
+sorted s _ _ (seat_sends_one e) = went e refl
 sorted s _ _ (ticks e) = went e refl
 sorted s _ _ (rounds report w t e r) = went e (report, w, t, r, refl, refl)
 

@@ -1,13 +1,13 @@
 -- Every call leads somewhere.
 use Rattle.std.proofs.Common.{◌≡◌, ℕ, zero, suc, ◌<◌, false, List, [], ◌∷◌, length, drop, refl, ap, arith, length-drop, length-take}
 use Rattle.std.proofs.lemmas.Bool.{cond_both}
-use Rattle.line.specs.Lines.{LineView, Sound, handed}
+use Rattle.line.specs.Lines.{LineView, handed}
 use Rattle.rules.specs.declared.answers.Received.{Received}
-use Rattle.rules.specs.State.{Pair, Outcome}
+use Rattle.rules.specs.State.{Steady, Pair, Outcome}
 use Rattle.rules.specs.Frames.{lack, given, left, Free}
 use Rattle.rules.specs.Hub.{listens, hub_hears, hub_sends}
 use Rattle.rules.specs.Seat.{is_apart, seat_hears}
-use Rattle.rules.specs.Rounds.{HubReceives, hub_deaf, hub_hears_lem, SeatReceives, seat_deaf, seat_hears_lem, Going, over, onward, going, Drains, ends, more, Call, Connect, Cut, Publish, Finish, Roll, Tell, Say, Leave, HubReceive, SeatReceive, HubSend, SeatSend, Tick, Round, lent_short, Step, short_buffer, connects, cuts, publishes, finishes, rolls, tells, says, leaves, hub_receives, seat_receives, hub_sends_lem, seat_sends_lem, ticks, rounds}
+use Rattle.rules.specs.Rounds.{HubReceives, hub_deaf, hub_hears_bytes, SeatReceives, seat_deaf, seat_hears_bytes, Going, over, onward, going, Drains, ends, more, Call, Connect, Cut, Publish, Finish, Roll, Tell, Say, Leave, HubReceive, SeatReceive, HubSend, SeatSend, Tick, Round, lent_short, Step, short_buffer, connects, cuts, publishes, finishes, rolls, tells, says, leaves, hub_receives, seat_receives, hub_sends_one, seat_sends_one, ticks, rounds}
 use Rattle.rules.specs.Roomiest.{hub_takes, seat_takes, onwards, drained, hub_drained, seat_drained, round_went, allowed}
 use Rattle.rules.specs.Laws.{Lined, Total, RoundsGranted, GoesOnByTaking}
 use Rattle.rules.proofs.Keeps.{Keeps, keeps_trans, drains_keep, hub_receives_keep, seat_receives_keep, hub_sends_keep}
@@ -15,14 +15,14 @@ use Rattle.rules.proofs.Frames.{clash}
 use Rattle.rules.proofs.Blind.{hub_hears_blind, seat_hears_blind}
 
 -- a line may always give all its room
-all_free : (v : LineView) (n : ℕ) → Sound v → Free v n v.full
+all_free : (v : LineView) (n : ℕ) → Steady v → Free v n v.full
 all_free v n i = record { grows = i.within; within = omega arith; empty = λ e. refl }
 
 hub_takes_lem : (s : Pair) → Lined s → HubReceives s (hub_takes s)
-hub_takes_lem s i = cond_both (listens s.hub.phase) _ _ (λ o. HubReceives s o) (λ e. hub_hears_lem s.up.full e (all_free s.up (lack s.hub.frame) i.up)) (λ e. hub_deaf e)
+hub_takes_lem s i = cond_both (listens s.hub.phase) _ _ (λ o. HubReceives s o) (λ e. hub_hears_bytes s.up.full e (all_free s.up (lack s.hub.frame) i.up)) (λ e. hub_deaf e)
 
 seat_takes_lem : (s : Pair) → Lined s → SeatReceives s (seat_takes s)
-seat_takes_lem s i = cond_both (is_apart s.seat.phase) _ _ (λ o. SeatReceives s o) (λ e. seat_deaf e) (λ e. seat_hears_lem s.down.full e (all_free s.down (lack s.seat.frame) i.down))
+seat_takes_lem s i = cond_both (is_apart s.seat.phase) _ _ (λ o. SeatReceives s o) (λ e. seat_deaf e) (λ e. seat_hears_bytes s.down.full e (all_free s.down (lack s.seat.frame) i.down))
 
 -- a receive that goes on was handed something
 hub_handed : (got : List ℕ) (w : LineView) (s : Pair) (k : ℕ) → going (hub_hears got w s).answer ≡ onward k → 0 < length got
@@ -41,12 +41,12 @@ falls v n room w e h =
 
 hub_falls : (s : Pair) (o : Outcome Received) (k : ℕ) → HubReceives s o → going o.answer ≡ onward k → length o.after.up.waiting < length s.up.waiting
 hub_falls s _ k (hub_deaf e) g = clash (cc)
-hub_falls s _ k (hub_hears_lem room e f) g =
+hub_falls s _ k (hub_hears_bytes room e f) g =
     falls s.up (lack s.hub.frame) room _ (ap (λ o. o.after.up) (hub_hears_blind (given s.up (lack s.hub.frame)) (left s.up (lack s.hub.frame) room) s)) (hub_handed _ _ s k g)
 
 seat_falls : (s : Pair) (o : Outcome Received) (k : ℕ) → SeatReceives s o → going o.answer ≡ onward k → length o.after.down.waiting < length s.down.waiting
 seat_falls s _ k (seat_deaf e) g = clash (cc)
-seat_falls s _ k (seat_hears_lem room e f) g =
+seat_falls s _ k (seat_hears_bytes room e f) g =
     falls s.down (lack s.seat.frame) room _ (ap (λ o. o.after.down) (seat_hears_blind (given s.down (lack s.seat.frame)) (left s.down (lack s.seat.frame) room) s)) (seat_handed _ _ s k g)
 
 keeps_lined : (s t : Pair) → Keeps s t → Lined s → Lined t
@@ -94,8 +94,8 @@ goes s (Say m) i e = says m e
 goes s Leave i e = leaves e
 goes s HubReceive i e = hub_receives (hub_takes s) e (hub_takes_lem s i)
 goes s SeatReceive i e = seat_receives (seat_takes s) e (seat_takes_lem s i)
-goes s HubSend i e = hub_sends_lem e
-goes s SeatSend i e = seat_sends_lem e
+goes s HubSend i e = hub_sends_one e
+goes s SeatSend i e = seat_sends_one e
 goes s Tick i e = ticks e
 goes s Round i e = round_goes s i e
 

@@ -3,19 +3,19 @@ use Rattle.std.specs.Prelude.{◌≡◌, ℕ, ◌+◌, ◌<◌, ◌≤◌, false
 use Rattle.fault.specs.declared.faults.Fault.{Fault}
 use Rattle.layout.specs.Limits.{packet_limit}
 use Rattle.packet.specs.Decoding.{part, decode}
-use Rattle.line.specs.Lines.{LineView, Sound}
+use Rattle.line.specs.Lines.{LineView}
 use Rattle.rules.specs.declared.answers.Received.{Received}
 use Rattle.rules.specs.declared.answers.Report.{Report}
-use Rattle.rules.specs.State.{Buffers, Pair, Outcome}
+use Rattle.rules.specs.State.{Steady, Buffers, Pair, Outcome}
 use Rattle.rules.specs.Changes.{with_up, with_down}
 use Rattle.rules.specs.Frames.{lack}
 use Rattle.rules.specs.Roomiest.{roomiest}
-use Rattle.rules.specs.Rounds.{HubReceives, hub_deaf, hub_hears_lem, SeatReceives, seat_deaf, seat_hears_lem, going, onward, Drains, ends, more, Call, Round, Went, too_short, lent_short, Deed, Step, short_buffer, connects, cuts, publishes, finishes, rolls, tells, says, leaves, hub_receives, seat_receives, hub_sends_lem, seat_sends_lem, ticks, rounds}
+use Rattle.rules.specs.Rounds.{HubReceives, hub_deaf, hub_hears_bytes, SeatReceives, seat_deaf, seat_hears_bytes, going, onward, Drains, ends, more, Call, Round, Went, too_short, lent_short, Deed, Step, short_buffer, connects, cuts, publishes, finishes, rolls, tells, says, leaves, hub_receives, seat_receives, hub_sends_one, seat_sends_one, ticks, rounds}
 
 -- Every line is sound by its own law, so the rules need an answer for such pairs alone.
 pub record Lined (s : Pair) : Type 0 where
-  pub up : Sound s.up
-  pub down : Sound s.down
+  pub up : Steady s.up
+  pub down : Steady s.down
 
 -- Every call leads somewhere, among others to where it leads if every take leaves all the room of its line.
 abbrev pub Total : Type 0
@@ -61,11 +61,11 @@ RoundsDiffer = (s : Pair) × Lined s × (d : Deed) × Step s Round d × (e : Dee
 -- the rooms that the takes of a call left, in order
 abbrev pub hub_gave : (s : Pair) (o : Outcome Received) → HubReceives s o → List ℕ
 hub_gave s _ (hub_deaf e) = []
-hub_gave s _ (hub_hears_lem room e free) = room ∷ []
+hub_gave s _ (hub_hears_bytes room e free) = room ∷ []
 
 abbrev pub seat_gave : (s : Pair) (o : Outcome Received) → SeatReceives s o → List ℕ
 seat_gave s _ (seat_deaf e) = []
-seat_gave s _ (seat_hears_lem room e free) = room ∷ []
+seat_gave s _ (seat_hears_bytes room e free) = room ∷ []
 
 abbrev pub drains_gave : {R : Pair → Outcome Received → Type 0} {s : Pair} {n : ℕ} {fault : Option Fault} {t : Pair} →
     ((s : Pair) (o : Outcome Received) → R s o → List ℕ) → Drains R s n fault t → List ℕ
@@ -84,8 +84,8 @@ gave (says m e) = []
 gave (leaves e) = []
 gave (hub_receives o e r) = hub_gave _ o r
 gave (seat_receives o e r) = seat_gave _ o r
-gave (hub_sends_lem e) = []
-gave (seat_sends_lem e) = []
+gave (hub_sends_one e) = []
+gave (seat_sends_one e) = []
 gave (ticks e) = []
 gave (rounds report wrote t e r) = drains_gave hub_gave r.hub_drains ++ drains_gave seat_gave r.seat_drains
 

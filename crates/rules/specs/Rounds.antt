@@ -23,12 +23,12 @@ use Rattle.rules.specs.Calls.{Done, done, connect, cut, publish, finish, roll, t
 -- The hub receives: it takes once, at most what its frame lacks. The take leaves a room that is free.
 pub data HubReceives (s : Pair) : Outcome Received → Type 0 where
   hub_deaf : listens s.hub.phase ≡ false → HubReceives s (refuses WrongPhase s)
-  hub_hears_lem : (room : ℕ) → listens s.hub.phase ≡ true → Free s.up (lack s.hub.frame) room →
+  hub_hears_bytes : (room : ℕ) → listens s.hub.phase ≡ true → Free s.up (lack s.hub.frame) room →
       HubReceives s (hub_hears (given s.up (lack s.hub.frame)) (left s.up (lack s.hub.frame) room) s)
 
 pub data SeatReceives (s : Pair) : Outcome Received → Type 0 where
   seat_deaf : is_apart s.seat.phase ≡ true → SeatReceives s (refuses WrongPhase s)
-  seat_hears_lem : (room : ℕ) → is_apart s.seat.phase ≡ false → Free s.down (lack s.seat.frame) room →
+  seat_hears_bytes : (room : ℕ) → is_apart s.seat.phase ≡ false → Free s.down (lack s.seat.frame) room →
       SeatReceives s (seat_hears (given s.down (lack s.seat.frame)) (left s.down (lack s.seat.frame) room) s)
 
 -- the fault that a refusal of a receive tells
@@ -167,8 +167,8 @@ pub data Step (s : Pair) : Call → Deed → Type 0 where
   leaves : lent_short Leave s ≡ false → Step s Leave (did (leave s))
   hub_receives : (o : Outcome Received) → lent_short HubReceive s ≡ false → HubReceives s o → Step s HubReceive (took o)
   seat_receives : (o : Outcome Received) → lent_short SeatReceive s ≡ false → SeatReceives s o → Step s SeatReceive (took o)
-  hub_sends_lem : lent_short HubSend s ≡ false → Step s HubSend (record { answer = Put (hub_sends s).answer; wrote = (hub_sends s).wrote; after = (hub_sends s).after })
-  seat_sends_lem : lent_short SeatSend s ≡ false → Step s SeatSend (record { answer = Put (seat_sends s).answer; wrote = None; after = (seat_sends s).after })
+  hub_sends_one : lent_short HubSend s ≡ false → Step s HubSend (record { answer = Put (hub_sends s).answer; wrote = (hub_sends s).wrote; after = (hub_sends s).after })
+  seat_sends_one : lent_short SeatSend s ≡ false → Step s SeatSend (record { answer = Put (seat_sends s).answer; wrote = None; after = (seat_sends s).after })
   ticks : lent_short Tick s ≡ false → Step s Tick (did (done (tick s)))
   rounds : (report : Report) (wrote : Option Value) (t : Pair) → lent_short Round s ≡ false → Rounds s report wrote t →
       Step s Round (record { answer = Went (Ok report); wrote = wrote; after = t })
