@@ -10,7 +10,7 @@ use Rattle.account.specs.declared.rows.Row.{Row}
 use Rattle.account.specs.Rows.{found, row_at, marking}
 use Rattle.account.specs.Logins.{Asked, Check, spoken_version, checks, first_failing, status_for}
 use Rattle.account.specs.Table.{Single}
-use Rattle.account.specs.Laws.{Fits, All-pass, First-fails, check_at, checks_of, TellsTheFirst, Acceptable, Accepts, AcceptsJustThese, Let-in, Turned-away, LetsInOne}
+use Rattle.account.specs.Laws.{Fits, AllPass, FirstFails, check_at, checks_of, TellsTheFirst, Acceptable, Accepts, AcceptsJustThese, LetIn, TurnedAway, LetsInOne}
 use Rattle.account.proofs.Only.{fits, finds_the_same}
 use Rattle.account.proofs.Marking.{found_as_before, marks_one_row}
 
@@ -18,7 +18,7 @@ ahead : (check : Check) (rest : List Check) (k : ℕ) → check.passes ≡ true 
 ahead check rest k t each zero h = t
 ahead check rest k t each (suc j) h = each j (omega arith)
 
-pub told : (list : List Check) → All-pass list (first_failing list) ⊎ ((k : ℕ) × First-fails list k (first_failing list))
+pub told : (list : List Check) → AllPass list (first_failing list) ⊎ ((k : ℕ) × FirstFails list k (first_failing list))
 told [] = inl (record { each = λ j h. absurd (omega arith); tells = refl })
 told (check ∷ rest) =
     elim (cases_Bool check.passes) [
@@ -101,13 +101,13 @@ accepts_just_these rows session highest asked single = record {
   each = λ i a. ap (λ (o : Option ℕ). first_failing (checks rows o session highest asked)) (finds_the_same rows asked.user asked.computer (Some i) single a.row) ∙ accepted_by rows session highest asked i a;
 }
 
-pub let_in : (before after : List Row) (session highest : ℕ) (asked : Asked) (status : Status) (o : Option ℕ) (i : ℕ) → status ≡ status_for before session highest asked → status ≡ Accepted → o ≡ found before asked.user asked.computer → o ≡ Some i → after ≡ marking before i true → Let-in before after session highest asked i
+pub let_in : (before after : List Row) (session highest : ℕ) (asked : Asked) (status : Status) (o : Option ℕ) (i : ℕ) → status ≡ status_for before session highest asked → status ≡ Accepted → o ≡ found before asked.user asked.computer → o ≡ Some i → after ≡ marking before i true → LetIn before after session highest asked i
 let_in before after session highest asked status o i told is row some marks =
     let accepted = sym told ∙ is in
     let here = sym row ∙ some in
     record { accepted = accepted; row = here; right = right before session highest asked accepted i here; marks = marks }
 
-pub turned_away : (rows : List Row) (session highest : ℕ) (asked : Asked) (status : Status) → status ≡ status_for rows session highest asked → (status ≡ Accepted → ⊥) → Turned-away rows rows session highest asked status
+pub turned_away : (rows : List Row) (session highest : ℕ) (asked : Asked) (status : Status) → status ≡ status_for rows session highest asked → (status ≡ Accepted → ⊥) → TurnedAway rows rows session highest asked status
 turned_away rows session highest asked status why refused = record {
   why = sym why;
   refused = refused;

@@ -6,7 +6,7 @@ use Rattle.std.proofs.lemmas.Bool.{cond-true, and_from, and_parts, leb-true, le-
 use Rattle.fault.specs.declared.refusals.Refusal.{Refusal}
 use Rattle.fault.specs.declared.refusals.Refusal.TheVariants.{BadAccountField}
 use Rattle.account.specs.declared.fields.Account.{Account}
-use Rattle.account.specs.Laws.{Is-field, JudgesFields, FieldsAreToldApart}
+use Rattle.account.specs.Laws.{IsField, JudgesFields, FieldsAreToldApart}
 use Rattle.account.specs.Fields.{visible, all_visible, good, judged, laid, padded, padded_fields, account_of}
 
 pub granted_good : (n : ℕ) (text : List ℕ) (r : Result Unit Refusal) (u : Unit) → r ≡ judged n text → r ≡ Ok u → good n text ≡ true
@@ -32,7 +32,7 @@ visible_decides b = (
   (λ h. and_from _ _ (le-leb _ _ h.0) (le-leb _ _ h.1)),
 )
 
-good_is_field : (width : ℕ) (text : List ℕ) → good width text ≡ true → Is-field width text
+good_is_field : (width : ℕ) (text : List ℕ) → good width text ≡ true → IsField width text
 good_is_field width text e =
     let p = and_parts (leb 1 (length text)) (leb (length text) width && all_visible text) e in
     let q = and_parts (leb (length text) width) (all_visible text) p.1 in

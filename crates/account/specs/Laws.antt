@@ -50,12 +50,12 @@ abbrev pub check_at : List Check → ℕ → Check
 check_at list k = slice_index_or list k (record { passes = true; status = Accepted })
 
 -- all checks pass, and the status says so
-pub record All-pass (list : List Check) (status : Status) : Type 0 where
+pub record AllPass (list : List Check) (status : Status) : Type 0 where
   pub each : (j : ℕ) → j < length list → (check_at list j).passes ≡ true
   pub tells : status ≡ Accepted
 
 -- check k is the first that fails, and the status is its own
-pub record First-fails (list : List Check) (k : ℕ) (status : Status) : Type 0 where
+pub record FirstFails (list : List Check) (k : ℕ) (status : Status) : Type 0 where
   pub within : k < length list
   pub before : (j : ℕ) → j < k → (check_at list j).passes ≡ true
   pub fails : (check_at list k).passes ≡ false
@@ -68,8 +68,8 @@ checks_of rows session highest asked = checks rows (found rows asked.user asked.
 -- the status is that of the first check that fails, and accepted where none does
 abbrev pub TellsTheFirst : Type 0
 TellsTheFirst = (rows : List Row) (session highest : ℕ) (asked : Asked) →
-    All-pass (checks_of rows session highest asked) (status_for rows session highest asked)
-    ⊎ ((k : ℕ) × First-fails (checks_of rows session highest asked) k (status_for rows session highest asked))
+    AllPass (checks_of rows session highest asked) (status_for rows session highest asked)
+    ⊎ ((k : ℕ) × FirstFails (checks_of rows session highest asked) k (status_for rows session highest asked))
 
 -- a login that is right in everything, by row i
 pub record Acceptable (rows : List Row) (session highest : ℕ) (asked : Asked) (i : ℕ) : Type 0 where
@@ -94,37 +94,37 @@ LetsInOne = (rows : List Row) (i : ℕ) (session highest : ℕ) (asked : Asked) 
     found rows asked.user asked.computer ≡ Some i → status_for (marking rows i true) session highest asked ≢ Accepted
 
 -- a text that may stand in a field: 1 to its width bytes, each from ! to ~
-pub record Is-field (width : ℕ) (text : List ℕ) : Type 0 where
+pub record IsField (width : ℕ) (text : List ℕ) : Type 0 where
   pub some : 1 ≤ length text
   pub narrow : length text ≤ width
   pub seen : All (λ b. (0x21 ≤ b) × (b ≤ 0x7E)) text
 
 -- just those are good, and padded they fill the field
-pub record Judged-right (width : ℕ) (text : List ℕ) : Type 0 where
-  pub decides : Decides (good width text) (Is-field width text)
+pub record JudgedRight (width : ℕ) (text : List ℕ) : Type 0 where
+  pub decides : Decides (good width text) (IsField width text)
   pub fills : good width text ≡ true → length (padded width text) ≡ width
 
 abbrev pub JudgesFields : Type 0
-JudgesFields = (width : ℕ) (text : List ℕ) → Judged-right width text
+JudgesFields = (width : ℕ) (text : List ℕ) → JudgedRight width text
 
 -- and no two of them become the same
 abbrev pub FieldsAreToldApart : Type 0
 FieldsAreToldApart = (width : ℕ) (text other : List ℕ) → good width text ≡ true → good width other ≡ true → padded width text ≡ padded width other → text ≡ other
 
 -- a login that is let in: it is right in everything, and the row that was found is marked
-pub record Let-in (before after : List Row) (session highest : ℕ) (asked : Asked) (i : ℕ) : Type 0 where
+pub record LetIn (before after : List Row) (session highest : ℕ) (asked : Asked) (i : ℕ) : Type 0 where
   pub accepted : status_for before session highest asked ≡ Accepted
   pub row : found before asked.user asked.computer ≡ Some i
   pub right : Acceptable before session highest asked i
   pub marks : after ≡ marking before i true
 
 -- a login that is turned away: the status is that of the first check that fails, and nothing changes
-pub record Turned-away (before after : List Row) (session highest : ℕ) (asked : Asked) (status : Status) : Type 0 where
+pub record TurnedAway (before after : List Row) (session highest : ℕ) (asked : Asked) (status : Status) : Type 0 where
   pub why : status_for before session highest asked ≡ status
   pub refused : status ≡ Accepted → ⊥
-  pub first : (k : ℕ) × First-fails (checks_of before session highest asked) k status
+  pub first : (k : ℕ) × FirstFails (checks_of before session highest asked) k status
   pub same : after ≡ before
 
 abbrev pub Admits : List Row → List Row → ℕ → ℕ → Asked → Result ℕ Status → Type 0
-Admits before after session highest asked (Ok i) = Let-in before after session highest asked i
-Admits before after session highest asked (Err status) = Turned-away before after session highest asked status
+Admits before after session highest asked (Ok i) = LetIn before after session highest asked i
+Admits before after session highest asked (Err status) = TurnedAway before after session highest asked status

@@ -65,19 +65,19 @@ abbrev pub NextNumberPasses : Type 0
 NextNumberPasses = (how : How) (s : Pair) → Honest s → rightly how s ≢ InvalidNumber
 
 -- The seat's log is the hub's, and its account has a row that no other login uses.
-pub record Caught-up (i : ℕ) (s : Pair) : Type 0 where
+pub record CaughtUp (i : ℕ) (s : Pair) : Type 0 where
   pub level : Level s.running.log s
   pub row : found s.rows s.account.user s.account.computer ≡ Some i
   pub protocol : bytes_eq (row_at s.rows i).protocol s.account.protocol ≡ true
   pub unused : (row_at s.rows i).marked ≡ false
 
-pub record Locked-out (s : Pair) : Type 0 where
+pub record LockedOut (s : Pair) : Type 0 where
   pub right : rightly Join s ≡ Accepted
   pub wrong : narrowly Join s ≡ InvalidNumber
 
 -- Such a seat may join by the right decision, and never by the wrong one.
 abbrev pub RefusingLocksOut : Type 0
-RefusingLocksOut = (i : ℕ) (s : Pair) → Caught-up i s → Locked-out s
+RefusingLocksOut = (i : ℕ) (s : Pair) → CaughtUp i s → LockedOut s
 
 -- The hub receives: a login request goes by the wrong decision, and all else is as ruled.
 pub data NarrowReceives (s : Pair) : Outcome Received → Type 0 where

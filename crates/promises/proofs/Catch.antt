@@ -330,12 +330,12 @@ module _ (F aq nu : ℕ) (k : Meaning) (wide : packet_limit ≤ F) (begun : 0 < 
       (cases_lt n (next_number rd.l))
 
 -- a granted round, as what it does
-pub record Went-round (s : Pair) (d : Deed) : Type 0 where
+pub record WentRound (s : Pair) (d : Deed) : Type 0 where
   pub report : Report
   pub wrote : Option Value
   pub does : Rounds s report wrote d.after
 
-granted_round : (s : Pair) (d : Deed) (p : Report) → Step s Round d → d.answer ≡ Went (Ok p) → Went-round s d
+granted_round : (s : Pair) (d : Deed) (p : Report) → Step s Round d → d.answer ≡ Went (Ok p) → WentRound s d
 granted_round s _ p (short_buffer _ e) g = clash (cc)
 granted_round s _ p (rounds q w t e r) g = record { report = q; wrote = w; does = r }
 

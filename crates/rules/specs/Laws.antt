@@ -116,9 +116,9 @@ abbrev pub PartsLack : Type 0
 PartsLack = (frame : List ℕ) → decode frame ≡ Ok part → (0 < lack frame) × (length frame + lack frame ≤ packet_limit)
 
 -- So nothing is laid past the end of a frame's buffer that is long enough.
-pub record Same-length (b c : Buffers) : Type 0 where
+pub record SameLength (b c : Buffers) : Type 0 where
   pub hub : too_short b.hub_frame ≡ false → length c.hub_frame ≡ length b.hub_frame
   pub seat : too_short b.seat_frame ≡ false → length c.seat_frame ≡ length b.seat_frame
 
 abbrev pub FrameBuffersKeep : Type 0
-FrameBuffersKeep = (s : Pair) (c : Call) (d : Deed) → Step s c d → Framed s → Same-length s.buffers d.after.buffers
+FrameBuffersKeep = (s : Pair) (c : Call) (d : Deed) → Step s c d → Framed s → SameLength s.buffers d.after.buffers
