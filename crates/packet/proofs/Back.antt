@@ -1,5 +1,5 @@
 -- A written packet reads back as itself.
-use Rattle.std.proofs.Common.{◌≡◌, ℕ, suc, ◌+◌, ◌^◌, ◌<◌, ◌≤◌, true, List, [], ◌∷◌, ◌++◌, length, get_or, take, drop, Ok, Err, Result, sym, refl, ap, ◌∙◌, arith, length-append}
+use Rattle.std.proofs.Common.{◌≡◌, ℕ, ◌+◌, ◌^◌, ◌<◌, List, ◌∷◌, ◌++◌, length, get_or, take, drop, Ok, Result, sym, refl, ap, ◌∙◌, arith}
 use Rattle.std.proofs.lemmas.List.{take_at, drop_at, drop-drop, get_or-drop}
 use Rattle.fault.specs.declared.faults.PacketFault.{PacketFault}
 use Rattle.layout.specs.declared.statuses.Status.{Status}
@@ -8,10 +8,10 @@ use Rattle.layout.specs.declared.goodbyes.GoodByeReason.{GoodByeReason}
 use Rattle.layout.specs.declared.letters.Letter.TheVariants as L
 use Rattle.layout.specs.Letters.{letter_byte}
 use Rattle.layout.specs.Numbers.{little, number}
-use Rattle.layout.proofs.Numbers.{number_little, length_little}
+use Rattle.layout.proofs.Numbers.{number_little}
 use Rattle.layout.proofs.Coded.{status_back, logout_back, good_bye_back}
-use Rattle.packet.specs.Values.{Value, Valid, Fields, login_request, login_response, sequenced, unsequenced, synchronization_complete, retransmission_request, logout_request, good_bye, end_of_session, hub_heartbeat, seat_heartbeat, test, encode, letter, body, length_number}
-use Rattle.packet.specs.Decoding.{decode, content, whole, wholly, next}
+use Rattle.packet.specs.Values.{Value, Fields, login_request, login_response, sequenced, unsequenced, synchronization_complete, retransmission_request, logout_request, good_bye, end_of_session, hub_heartbeat, seat_heartbeat, test, encode, letter, body, length_number}
+use Rattle.packet.specs.Decoding.{content, wholly, next}
 use Rattle.packet.specs.Laws.{ReadsBack}
 use Rattle.packet.proofs.Framing.{decode_framed, opened_letter, within}
 

@@ -1,5 +1,5 @@
 -- Beginnings of packets, bytes after them, and the faults of a reader that knows of no phase.
-use Rattle.std.proofs.Common.{◌≡◌, ℕ, ◌+◌, ◌-◌, ◌*◌, ◌/◌, ◌%◌, ◌<◌, ◌≤◌, Bool, true, false, cond, eqb, ltb, ◌⊎◌, List, [], ◌∷◌, ◌++◌, length, get_or, take, drop, Ok, Err, Result, sym, refl, ap, ◌∙◌, subst, inl, inr, arith, length-append, length-drop}
+use Rattle.std.proofs.Common.{◌≡◌, ℕ, ◌+◌, ◌-◌, ◌<◌, ◌≤◌, eqb, ltb, List, ◌++◌, length, get_or, take, drop, Ok, Err, Result, sym, refl, ap, ◌∙◌, subst, inl, inr, arith, length-append, length-drop}
 use Rattle.std.proofs.lemmas.List.{get_or_append_left, get_or-take, take-append-le, drop-append-le, length-take-le}
 use Rattle.std.proofs.lemmas.Bool.{cases_lt, lt-ltb, le-ltb, eq-eqb, ne_eqb, cond-true, cond-false}
 use Rattle.fault.specs.declared.faults.Field.TheVariants as Field
@@ -11,9 +11,9 @@ use Rattle.layout.specs.Limits.{length_limit}
 use Rattle.layout.specs.Letters.{letter_byte, letter_of, letters, allowed}
 use Rattle.layout.specs.Codes.{status_byte, status_of, statuses, logout_byte, logout_of, logout_reasons, good_bye_byte, good_bye_of, good_bye_reasons}
 use Rattle.layout.proofs.Coded.{cut, coded_fault}
-use Rattle.packet.specs.Values.{Value, Valid, encode, letter, body, length_number}
+use Rattle.packet.specs.Values.{Value, Valid, encode, letter, length_number}
 use Rattle.packet.specs.Decoding.{Answer, decode, counted, head_number, bodied, opened, content, part, whole, wholly, next}
-use Rattle.packet.specs.Laws.{Bytes, Front, IgnoresRest, BeginningsAreParts, TellsEarly, Told-early, Phaseless, KnowsNoPhase, Told}
+use Rattle.packet.specs.Laws.{Bytes, Front, IgnoresRest, BeginningsAreParts, TellsEarly, Phaseless, KnowsNoPhase, Told}
 use Rattle.packet.proofs.Framing.{within, counted_good, head_of_little}
 use Rattle.packet.proofs.Back.{length_encode}
 use Rattle.packet.proofs.Forth.{counted_forth, writes_back}

@@ -1,15 +1,15 @@
 -- What the length number alone tells of a packet.
-use Rattle.std.proofs.Common.{◌≡◌, ℕ, ◌+◌, ◌-◌, ◌<◌, ◌≤◌, ltb, List, [], ◌∷◌, ◌++◌, length, get_or, take, drop, Some, None, Ok, Err, Option, Result, sym, refl, ap, ◌∙◌, inl, inr, arith, length-append}
-use Rattle.std.proofs.lemmas.Bool.{cases_lt, lt-ltb, le-ltb, ltb-true, ltb-false, cond-false}
+use Rattle.std.proofs.Common.{◌≡◌, ℕ, ◌+◌, ◌-◌, ◌<◌, ◌≤◌, ltb, List, ◌++◌, length, get_or, take, drop, Some, None, Ok, Err, sym, ap, ◌∙◌, inl, inr, arith, length-append}
+use Rattle.std.proofs.lemmas.Bool.{cases_lt, le-ltb, ltb-true, ltb-false, cond-false}
 use Rattle.fault.specs.declared.faults.PacketFault.{PacketFault}
-use Rattle.layout.specs.Limits.{length_limit, packet_limit}
+use Rattle.layout.specs.Limits.{packet_limit}
 use Rattle.layout.proofs.Coded.{cut}
 use Rattle.packet.specs.Values.{Value, Valid, encode, letter, length_number}
-use Rattle.packet.specs.Decoding.{Answer, decode, packet_length, counted, head_number, bodied, opened, part, whole, wholly, next}
+use Rattle.packet.specs.Decoding.{decode, packet_length, counted, head_number, bodied, opened, part, wholly, next}
 use Rattle.packet.proofs.Framing.{within, counted_good}
 use Rattle.packet.proofs.Back.{length_encode}
 use Rattle.packet.proofs.Forth.{counted_forth, took}
-use Rattle.packet.proofs.Fronts.{decode_short, decode_head, head_encode, head_same, bodied_whole, failed}
+use Rattle.packet.proofs.Fronts.{decode_short, decode_head, head_encode, head_same, failed}
 
 length_head : (bs : List ℕ) → 2 ≤ length bs → packet_length bs ≡ next (counted (head_number bs)) (λ n. Ok (Some (n + 2)))
 unfolding packet_length

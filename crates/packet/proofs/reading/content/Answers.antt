@@ -5,8 +5,8 @@ use Rattle.packet.proofs.reading.content.Goals as goal
 pub returns-in-Sequenced : goal.returns-in-Sequenced
 returns-in-Sequenced c = simp take_rest (search rules)
 
-pub returns-in-ok-from-byte : goal.returns-in-ok-from-byte
-returns-in-ok-from-byte c = simp take_rest (search rules)
+pub returns-in_ok-from_byte-in-LogoutRequest : goal.returns-in_ok-from_byte-in-LogoutRequest
+returns-in_ok-from_byte-in-LogoutRequest c = simp take_rest (search rules)
 
-pub returns-in-ok-from-byte-2 : goal.returns-in-ok-from-byte-2
-returns-in-ok-from-byte-2 c = simp take_rest (search rules)
+pub returns-in_ok-from_byte-in-GoodBye : goal.returns-in_ok-from_byte-in-GoodBye
+returns-in_ok-from_byte-in-GoodBye c = simp take_rest (search rules)

@@ -7,4 +7,4 @@ pub returns : goal.returns
 returns c =
     let bs = c.args.bytes.now in
     let small : (i : ℕ) → i < length bs → get_or bs i 0 < 256 = λ i h. search rules in
-    told bs _ (All-from_get_or _ bs 0 small) c.taken-apart.ensures
+    told bs _ (All-from_get_or _ bs 0 small) c.taken_apart.ensures

@@ -1,4 +1,4 @@
-use Rattle.std.proofs.Common.{◌≡◌, ◌+◌, ◌≤◌, length, sym, ap, ◌∙◌, rules}
+use Rattle.std.proofs.Common.{◌+◌, ◌≤◌, length, sym, ap, ◌∙◌, rules}
 use native.Mathlib.Nat.{sub-zero}
 use Rattle.std.proofs.lemmas.List.{take_rest}
 use Rattle.std.proofs.lemmas.Result.{err_from_is_err_and}
@@ -6,39 +6,39 @@ use Rattle.packet.specs.Decoding.{decode, wholly}
 use Rattle.packet.proofs.Framing.{decode_whole}
 use Rattle.packet.proofs.reading.taken_apart.Goals as goal
 
-pub returns-in-ok-opened : goal.returns-in-ok-opened
-returns-in-ok-opened c =
+pub returns-in_ok-opened-in-len3-up : goal.returns-in_ok-opened-in-len3-up
+returns-in_ok-opened-in-len3-up c =
     let bs = c.args.bytes.now in
     let h : 2 ≤ length bs = search rules in
-    let k : c.in-ok-length.length + 2 ≤ length bs = search rules in
-    let p = simp (take_rest, sub-zero) at c.in-ok-opened.ensures in
-    ap wholly p ∙ sym (decode_whole bs c.in-ok-length.length h c.in-ok-length.ensures k)
+    let k : c.in_ok-length-in-len3-up.length + 2 ≤ length bs = search rules in
+    let p = simp (take_rest, sub-zero) at c.in_ok-opened-in-len3-up.ensures in
+    ap wholly p ∙ sym (decode_whole bs c.in_ok-length-in-len3-up.length h c.in_ok-length-in-len3-up.ensures k)
 
-pub returns-in-err-opened : goal.returns-in-err-opened
-returns-in-err-opened c =
+pub returns-in_err-opened-in-len3-up : goal.returns-in_err-opened-in-len3-up
+returns-in_err-opened-in-len3-up c =
     let bs = c.args.bytes.now in
     let h : 2 ≤ length bs = search rules in
-    let k : c.in-ok-length.length + 2 ≤ length bs = search rules in
-    let p = simp (take_rest, sub-zero) at c.in-err-opened.ensures in
-    let r = err_from_is_err_and c.from-residual-in-err-opened.result c.from-residual-in-err-opened.ensures.1 in
-    rw (r.1, r.2) (ap wholly p ∙ sym (decode_whole bs c.in-ok-length.length h c.in-ok-length.ensures k))
+    let k : c.in_ok-length-in-len3-up.length + 2 ≤ length bs = search rules in
+    let p = simp (take_rest, sub-zero) at c.in_err-opened-in-len3-up.ensures in
+    let r = err_from_is_err_and c.from_residual-in_err-opened-in-len3-up.result c.from_residual-in_err-opened-in-len3-up.ensures.1 in
+    rw (r.1, r.2) (ap wholly p ∙ sym (decode_whole bs c.in_ok-length-in-len3-up.length h c.in_ok-length-in-len3-up.ensures k))
 
-pub returns-in-err-length-number : goal.returns-in-err-length-number
+pub returns-in_err-length_number-in-len2 : goal.returns-in_err-length_number-in-len2
 unfolding decode
-returns-in-err-length-number c = search rules
+returns-in_err-length_number-in-len2 c = search rules
 
-pub returns-in-err-length : goal.returns-in-err-length
+pub returns-in_err-length-in-len3-up : goal.returns-in_err-length-in-len3-up
 unfolding decode
-returns-in-err-length c = search rules
+returns-in_err-length-in-len3-up c = search rules
 
 pub returns-then-rest-length : goal.returns-then-rest-length
 unfolding decode
 returns-then-rest-length c = search rules
 
-pub returns-in-default : goal.returns-in-default
+pub returns-in_default : goal.returns-in_default
 unfolding decode
-returns-in-default c = search rules
+returns-in_default c = search rules
 
-pub returns-in-ok-length-number : goal.returns-in-ok-length-number
+pub returns-in_ok-length_number-in-len2 : goal.returns-in_ok-length_number-in-len2
 unfolding decode
-returns-in-ok-length-number c = search rules
+returns-in_ok-length_number-in-len2 c = search rules

@@ -8,4 +8,4 @@ returns c =
     let new = c.args.bytes.now in
     let at = c.args.at in
     let end = at + length new in
-    ap (put_mid at (end - at) old) c.copy-from-slice.ensures.after ∙ ap (λ rest. take at old ++ (new ++ rest)) (Post-is at end old (omega arith))
+    ap (put_mid at (end - at) old) c.copy_from_slice.ensures.after ∙ ap (λ rest. take at old ++ (new ++ rest)) (Post-is at end old (omega arith))

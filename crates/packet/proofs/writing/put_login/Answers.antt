@@ -15,8 +15,8 @@ returns c =
     let s = a.session ∷ [] in
     let n = little 8 a.number in
     let h : 3 ≤ length l = omega arith in
-    let e = then l _ _ (v ++ u) (k ++ p) 3 13 h (simp length-append (omega arith)) c.put-two.ensures c.put-two-2.ensures in
-    let f = c.put-two-3.ensures ∙ ap (λ x. laid c.put-two-2.new.out 29 (s ++ x)) c.number-bytes.ensures in
+    let e = then l _ _ (v ++ u) (k ++ p) 3 13 h (simp length-append (omega arith)) c.put_two.ensures c.put_two-2.ensures in
+    let f = c.put_two-3.ensures ∙ ap (λ x. laid c.put_two-2.new.out 29 (s ++ x)) c.number_bytes.ensures in
     let g = then l _ _ ((v ++ u) ++ (k ++ p)) (s ++ n) 3 29 h (simp length-append (omega arith)) e f in
     let q : ((v ++ u) ++ (k ++ p)) ++ (s ++ n) ≡ v ++ (u ++ (k ++ (p ++ (s ++ n)))) = simp append_assoc in
     g ∙ ap (laid l 3) q

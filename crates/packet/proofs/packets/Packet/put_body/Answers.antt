@@ -1,4 +1,4 @@
-use Rattle.std.proofs.Common.{◌≡◌, ℕ, List, ◌++◌, sym, ap, ◌∙◌, subst, arith, length-append}
+use Rattle.std.proofs.Common.{ℕ, List, ◌++◌, sym, ap, ◌∙◌, subst, arith, length-append}
 use Rattle.layout.specs.Numbers.{little}
 use Rattle.packet.specs.declared.packets.Packet.{Packet}
 use Rattle.packet.specs.Meanings.{value_of}
@@ -6,8 +6,8 @@ use Rattle.packet.specs.Values.{Fields, body}
 use Rattle.packet.specs.Writing.{laid}
 use Rattle.packet.proofs.packets.Packet.put_body.Goals as goal
 
-pub put-login-requires : goal.put-login-requires
-put-login-requires c =
+pub put_login-requires : goal.put_login-requires
+put_login-requires c =
     let is = c.in-LoginRequest.is in
     let f = subst (λ (p : Packet). Fields (value_of p)) is c.requires.fields in
     let r = simp (is, length-append) at c.requires.room in
@@ -16,9 +16,9 @@ put-login-requires c =
 pub returns-in-RetransmissionRequest : goal.returns-in-RetransmissionRequest
 returns-in-RetransmissionRequest c =
     let l = c.args.out.now in
-    let a = c.number-bytes-in-RetransmissionRequest.ensures in
-    let b = c.number-bytes-in-RetransmissionRequest-2.ensures in
-    c.put-two-in-RetransmissionRequest.ensures
-    ∙ ap (λ (x : List ℕ). laid l 3 (x ++ c.number-bytes-in-RetransmissionRequest-2.result)) a
+    let a = c.number_bytes-in-RetransmissionRequest.ensures in
+    let b = c.number_bytes-in-RetransmissionRequest-2.ensures in
+    c.put_two-in-RetransmissionRequest.ensures
+    ∙ ap (λ (x : List ℕ). laid l 3 (x ++ c.number_bytes-in-RetransmissionRequest-2.result)) a
     ∙ ap (λ (x : List ℕ). laid l 3 (little 8 c.in-RetransmissionRequest.start ++ x)) b
     ∙ sym (ap (λ (p : Packet). laid l 3 (body (value_of p))) c.in-RetransmissionRequest.is)
