@@ -30,7 +30,7 @@ piece : (b : List ℕ) (k w : ℕ) → drop k b ≡ take w (drop k b) ++ drop (k
 piece b k w = sym (take-append-drop w (drop k b)) ∙ ap (λ (x : List ℕ). take w (drop k b) ++ x) (drop-drop w k b)
 
 -- a letter and a body that are read as v are those of v
-record Read-as (l : Letter) (b : List ℕ) (v : Value) : Type 0 where
+record ReadAs (l : Letter) (b : List ℕ) (v : Value) : Type 0 where
   fields : Fields v
   letter_is : l ≡ letter v
   body_is : b ≡ body v
@@ -48,13 +48,13 @@ module _ (b : List ℕ) (v : Value) (s : Bytes b) where
       let l : length w ≡ 8 = length-take-le 8 (drop k b) (simp length-drop (omega arith)) in
       subst (λ (i : ℕ). number w < 256 ^ i) l (number_below w (All-take _ 8 (drop k b) (All-drop _ k b s)))
 
-  is : (l : Letter) (w : Value) → Read-as l b w → ◌≡◌ {A = Result Value PacketFault} (Ok w) (Ok v) → Read-as l b v
-  is l w h e = let q : w ≡ v = cc in subst (λ (x : Value). Read-as l b x) q h
+  is : (l : Letter) (w : Value) → ReadAs l b w → ◌≡◌ {A = Result Value PacketFault} (Ok w) (Ok v) → ReadAs l b v
+  is l w h e = let q : w ≡ v = cc in subst (λ (x : Value). ReadAs l b x) q h
 
-  bare : (l : Letter) (w : Value) → Fields w → l ≡ letter w → body w ≡ [] → length b ≡ 0 → ◌≡◌ {A = Result Value PacketFault} (Ok w) (Ok v) → Read-as l b v
+  bare : (l : Letter) (w : Value) → Fields w → l ≡ letter w → body w ≡ [] → length b ≡ 0 → ◌≡◌ {A = Result Value PacketFault} (Ok w) (Ok v) → ReadAs l b v
   bare l w f q n z e = is l w (record { fields = f; letter_is = q; body_is = nil_from_length b z ∙ sym n }) e
 
-  login_forth : length b ≡ 35 → content L.LoginRequest b ≡ Ok v → Read-as L.LoginRequest b v
+  login_forth : length b ≡ 35 → content L.LoginRequest b ≡ Ok v → ReadAs L.LoginRequest b v
   login_forth l =
       let wide : (k w : ℕ) → k + w ≤ 35 → length (take w (drop k b)) ≡ w = λ k w h. length-take-le w (drop k b) (simp length-drop (omega arith)) in
       let e0 : b ≡ take 5 b ++ drop 5 b = piece b 0 5 in
@@ -74,9 +74,9 @@ module _ (b : List ℕ) (v : Value) (s : Bytes b) where
         body_is = same;
       })
 
-  response_forth : length b ≡ 10 → content L.LoginResponse b ≡ Ok v → Read-as L.LoginResponse b v
+  response_forth : length b ≡ 10 → content L.LoginResponse b ≡ Ok v → ReadAs L.LoginResponse b v
   response_forth l =
-      took (status_of (get_or b 0 0)) _ v (Read-as L.LoginResponse b v)
+      took (status_of (get_or b 0 0)) _ v (ReadAs L.LoginResponse b v)
       (λ t r. let e0 : b ≡ get_or b 0 0 ∷ drop 1 b = drop_more b 0 0 (omega arith) in
       let e1 : drop 1 b ≡ get_or b 1 0 ∷ drop 2 b = drop_more b 1 0 (omega arith) in
       let e2 : take 8 (drop 2 b) ≡ drop 2 b = take_all 8 (drop 2 b) (simp length-drop (omega arith)) in
@@ -87,12 +87,12 @@ module _ (b : List ℕ) (v : Value) (s : Bytes b) where
       is L.LoginResponse w
       (record { fields = (All-get_or _ b 1 0 (omega arith) s, below 2 (omega arith)); letter_is = refl; body_is = same }))
 
-  sequenced_forth : 8 ≤ length b → content L.Sequenced b ≡ Ok v → Read-as L.Sequenced b v
+  sequenced_forth : 8 ≤ length b → content L.Sequenced b ≡ Ok v → ReadAs L.Sequenced b v
   sequenced_forth h =
       is L.Sequenced (sequenced (number (take 8 b)) (drop 8 b))
       (record { fields = below 0 (omega arith); letter_is = refl; body_is = piece b 0 8 ∙ sym (ap (λ (x : List ℕ). x ++ drop 8 b) (eight 0 (omega arith))) })
 
-  retransmission_forth : length b ≡ 16 → content L.RetransmissionRequest b ≡ Ok v → Read-as L.RetransmissionRequest b v
+  retransmission_forth : length b ≡ 16 → content L.RetransmissionRequest b ≡ Ok v → ReadAs L.RetransmissionRequest b v
   retransmission_forth l =
       let e0 : b ≡ take 8 b ++ drop 8 b = piece b 0 8 in
       let e1 : take 8 (drop 8 b) ≡ drop 8 b = take_all 8 (drop 8 b) (simp length-drop (omega arith)) in
@@ -103,16 +103,16 @@ module _ (b : List ℕ) (v : Value) (s : Bytes b) where
       is L.RetransmissionRequest w (record { fields = (below 0 (omega arith), below 8 (omega arith)); letter_is = refl; body_is = same })
 
   -- a reason and a text
-  reasoned : {R : Type 0} (l : Letter) (byte_of : R → ℕ) (reasons : List R) (made : R → List ℕ → Value) → ((r : R) (t : List ℕ) → Fields (made r t) × (l ≡ letter (made r t)) × (body (made r t) ≡ byte_of r ∷ t)) → 0 < length b → next (coded byte_of (WrongContent Field.Reason) reasons (get_or b 0 0)) (λ r. Ok (made r (drop 1 b))) ≡ Ok v → Read-as l b v
+  reasoned : {R : Type 0} (l : Letter) (byte_of : R → ℕ) (reasons : List R) (made : R → List ℕ → Value) → ((r : R) (t : List ℕ) → Fields (made r t) × (l ≡ letter (made r t)) × (body (made r t) ≡ byte_of r ∷ t)) → 0 < length b → next (coded byte_of (WrongContent Field.Reason) reasons (get_or b 0 0)) (λ r. Ok (made r (drop 1 b))) ≡ Ok v → ReadAs l b v
   reasoned l byte_of reasons made shape h =
-      took _ _ v (Read-as l b v)
+      took _ _ v (ReadAs l b v)
       (λ r q. let e0 : b ≡ get_or b 0 0 ∷ drop 1 b = drop_more b 0 0 (omega arith) in
       let e1 : get_or b 0 0 ≡ byte_of r = coded_byte byte_of (WrongContent Field.Reason) reasons (get_or b 0 0) r q in
       let k = shape r (drop 1 b) in
       is l (made r (drop 1 b))
       (record { fields = k.0; letter_is = k.1; body_is = e0 ∙ ap (λ (i : ℕ). i ∷ drop 1 b) e1 ∙ sym k.2 }))
 
-  content_forth : (l : Letter) → Within l (length b + 1) → content l b ≡ Ok v → Read-as l b v
+  content_forth : (l : Letter) → Within l (length b + 1) → content l b ≡ Ok v → ReadAs l b v
   content_forth L.LoginRequest h = login_forth (omega arith)
   content_forth L.LoginResponse h = response_forth (omega arith)
   content_forth L.Sequenced h = sequenced_forth (omega arith)
@@ -127,17 +127,17 @@ module _ (b : List ℕ) (v : Value) (s : Bytes b) where
   content_forth L.Test h = is L.Test (test b) (record { fields = tt; letter_is = refl; body_is = refl })
 
 -- a letter's byte and a body that are read as v
-record Opened-as (k : ℕ) (b : List ℕ) (v : Value) : Type 0 where
+record OpenedAs (k : ℕ) (b : List ℕ) (v : Value) : Type 0 where
   letter_is : k ≡ letter_byte (letter v)
   body_is : b ≡ body v
   valid : Valid v
 
-opened_forth : (k : ℕ) (b : List ℕ) (v : Value) → Bytes b → opened k b ≡ Ok v → Opened-as k b v
+opened_forth : (k : ℕ) (b : List ℕ) (v : Value) → Bytes b → opened k b ≡ Ok v → OpenedAs k b v
 opened_forth k b v s =
-    took (letter_of k) _ v (Opened-as k b v)
-    (λ l r. cut (allowed l (length b + 1)) _ _ (Ok v) (Opened-as k b v)
+    took (letter_of k) _ v (OpenedAs k b v)
+    (λ l r. cut (allowed l (length b + 1)) _ _ (Ok v) (OpenedAs k b v)
     (λ t e. let q : k ≡ letter_byte l = coded_byte letter_byte UnknownLetter letters k l r in
-    let f : Read-as l b v = content_forth b v s l (within l (length b + 1) t) e in
+    let f : ReadAs l b v = content_forth b v s l (within l (length b + 1) t) e in
     let same : l ≡ letter v = f.letter_is in
     let size : length b + 1 ≡ length_number v = ap (λ (x : List ℕ). length x + 1) f.body_is in
     record {
@@ -181,7 +181,7 @@ writes_back bs v s e =
     let n : ℕ = p.n in
     let b : List ℕ = take (n - 1) (drop 3 bs) in
     let lb : length b ≡ n - 1 = length-take-le (n - 1) (drop 3 bs) (simp length-drop (omega arith)) in
-    let f : Opened-as (get_or bs 2 0) b v = opened_forth (get_or bs 2 0) b v (All-take _ (n - 1) (drop 3 bs) (All-drop _ 3 bs s)) p.read in
+    let f : OpenedAs (get_or bs 2 0) b v = opened_forth (get_or bs 2 0) b v (All-take _ (n - 1) (drop 3 bs) (All-drop _ 3 bs s)) p.read in
     let lv : length b ≡ length (body v) = ap length f.body_is in
     let s0 : get_or bs 0 0 < 256 = All-get_or _ bs 0 0 (omega arith) s in
     let s1 : get_or bs 1 0 < 256 = All-get_or _ bs 1 0 (omega arith) s in

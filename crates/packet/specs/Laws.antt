@@ -33,12 +33,12 @@ abbrev pub BeginningsAreParts : Type 0
 BeginningsAreParts = (v : Value) (k : ℕ) → Valid v → k < length (encode v) → decode (take k (encode v)) ≡ Ok part
 
 -- a length number that is 0 or over the limit is told as soon as its two bytes are in
-pub record Told-early (bs : List ℕ) : Type 0 where
+pub record ToldEarly (bs : List ℕ) : Type 0 where
   pub zero : head_number bs ≡ 0 → decode bs ≡ Err LengthZero
   pub over : length_limit < head_number bs → decode bs ≡ Err LengthOverLimit
 
 abbrev pub TellsEarly : Type 0
-TellsEarly = (bs : List ℕ) → 2 ≤ length bs → Told-early bs
+TellsEarly = (bs : List ℕ) → 2 ≤ length bs → ToldEarly bs
 
 -- the faults that a reader can tell which knows of no phase: no letter is out of place, and a content is
 -- wrong only in a status or a reason
@@ -69,6 +69,6 @@ pub record Told (bs : List ℕ) (r : Result Answer PacketFault) : Type 0 where
   -- bytes after the packet change nothing
   pub rest : (more : List ℕ) → (r ≢ Ok part) → decode (bs ++ more) ≡ r
   -- a bad length number is told by its two bytes
-  pub early : 2 ≤ length bs → Told-early bs
+  pub early : 2 ≤ length bs → ToldEarly bs
   -- no fault is told that only an end in a phase can tell
   pub phaseless : (fault : PacketFault) → r ≡ Err fault → Phaseless fault
