@@ -1,16 +1,14 @@
 -- The first check that fails, and what it means that none does.
-use Rattle.std.proofs.Common.{◌≡◌, ℕ, zero, suc, ◌+◌, ◌<◌, ◌≤◌, Bool, true, false, cond, not, ◌||◌, eqb, leb, ◌⊎◌, List, [], ◌∷◌, length, Some, None, Option, sym, refl, ap, ◌∙◌, subst, inl, inr, arith}
+use Rattle.std.proofs.Common.{◌≡◌, ℕ, zero, suc, ◌<◌, true, eqb, ◌⊎◌, List, [], ◌∷◌, length, Some, None, Option, sym, refl, ap, ◌∙◌, subst, inl, inr, arith}
 use Rattle.std.specs.List.{AllByRecursion as All}
-use Rattle.std.specs.Str.{bytes_eq}
 use Rattle.std.proofs.lemmas.Slice.Eq.{bytes_eq-Decides}
 use Rattle.std.proofs.lemmas.Bool.{cases_Bool, cond-true, cond-false, both_ways, not-true, not_from_false, or_cases, or_left, or_right, eqb-true, eq-eqb, leb-true, le-leb}
 use Rattle.layout.specs.declared.statuses.Status.{Status}
-use Rattle.layout.specs.declared.statuses.Status.TheVariants.{Accepted, UnknownUser, SessionUnavailable, InvalidNumber, WrongVersion, WrongProtocol, AlreadyLoggedIn}
+use Rattle.layout.specs.declared.statuses.Status.TheVariants.{Accepted}
 use Rattle.account.specs.declared.rows.Row.{Row}
 use Rattle.account.specs.Rows.{found, row_at, marking}
 use Rattle.account.specs.Logins.{Asked, Check, spoken_version, checks, first_failing, status_for}
-use Rattle.account.specs.Table.{Single}
-use Rattle.account.specs.Laws.{Fits, AllPass, FirstFails, check_at, checks_of, TellsTheFirst, Acceptable, Accepts, AcceptsJustThese, LetIn, TurnedAway, LetsInOne}
+use Rattle.account.specs.Laws.{AllPass, FirstFails, check_at, checks_of, TellsTheFirst, Acceptable, AcceptsJustThese, LetIn, TurnedAway, LetsInOne}
 use Rattle.account.proofs.Only.{fits, finds_the_same}
 use Rattle.account.proofs.Marking.{found_as_before, marks_one_row}
 

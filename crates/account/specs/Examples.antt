@@ -1,5 +1,5 @@
 -- Worked examples: what a lookup finds, and how logins are decided.
-use Rattle.std.specs.Prelude.{◌≡◌, ℕ, Bool, true, false, List, [], ◌∷◌, Some, None, codes, Option}
+use Rattle.std.specs.Prelude.{◌≡◌, ℕ, true, false, List, [], ◌∷◌, Some, None, codes, Option}
 use Rattle.std.specs.List.{AllByRecursion as All}
 use Rattle.layout.specs.declared.statuses.Status.{Status}
 use Rattle.layout.specs.declared.statuses.Status.TheVariants.{Accepted, UnknownUser, SessionUnavailable, InvalidNumber, WrongVersion, WrongProtocol, AlreadyLoggedIn}

@@ -1,5 +1,5 @@
 -- The rows of the account table: how one is found, and how one is marked.
-use Rattle.std.specs.Prelude.{ℕ, ◌+◌, Bool, true, false, cond, ◌&&◌, List, [], ◌∷◌, set, Some, None, Option, ◌==◌, nat_le, slice_index_or, slice_set}
+use Rattle.std.specs.Prelude.{ℕ, ◌+◌, Bool, true, false, cond, ◌&&◌, List, [], ◌∷◌, Some, None, Option, ◌==◌, nat_le, slice_index_or, slice_set}
 use Rattle.account.specs.declared.rows.Row.{Row}
 
 -- A to Z become a to z, and every other byte stays

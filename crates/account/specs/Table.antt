@@ -1,5 +1,5 @@
 -- The account table: the rows in use, and how one joins them.
-use Rattle.std.specs.Prelude.{◌≡◌, ℕ, ◌<◌, Bool, true, false, cond, ◌&&◌, List, [], ◌∷◌, ◌++◌, length, take, is_some, Ok, Err, Result, nat_lt}
+use Rattle.std.specs.Prelude.{◌≡◌, ℕ, ◌<◌, Bool, true, false, cond, List, [], ◌∷◌, ◌++◌, length, take, is_some, Ok, Err, Result, nat_lt}
 use Rattle.fault.specs.declared.refusals.Refusal.{Refusal}
 use Rattle.fault.specs.declared.refusals.Refusal.TheVariants.{AccountTaken}
 use Rattle.account.specs.declared.fields.Account.{Account}

@@ -87,8 +87,8 @@ impl Accounts {
 
     /// Puts a row behind those in use.
     fn push(&mut self, row: Row)
-        requires count_bound { self.old.count < 8 }
-        requires computer_value { found (in_use self.old.rows self.old.count) row.user row.computer ≡ None }
+        requires room { self.old.count < 8 }
+        requires absent { found (in_use self.old.rows self.old.count) row.user row.computer ≡ None }
         ensures { in_use self.new.rows self.new.count ≡ in_use self.old.rows self.old.count ++ (row ∷ []) }
     {
         self.rows[self.count] = row;

@@ -1,4 +1,4 @@
-use Rattle.std.proofs.Common.{◌≡◌, sym, ◌∙◌, arith}
+use Rattle.std.proofs.Common.{sym, ◌∙◌, arith}
 use Rattle.account.proofs.Steps.{alike_long, alike_more, alike_not, alike_end}
 use Rattle.account.proofs.lookups.alike.Goals as goal
 

@@ -1,4 +1,4 @@
-use Rattle.std.proofs.Common.{◌≡◌, sym, ◌∙◌, arith}
+use Rattle.std.proofs.Common.{sym, ◌∙◌, arith}
 use Rattle.account.proofs.Steps.{found_here, found_more, found_none}
 use Rattle.account.proofs.lookups.find.Goals as goal
 

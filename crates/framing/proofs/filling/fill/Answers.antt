@@ -20,4 +20,4 @@ returns g c =
     let b = and_from _ _ (le-leb packet_limit (length f) (omega arith)) (le-leb held packet_limit (omega arith)) in
     let w : c.lacking.result ≡ wanted held f = c.lacking.ensures ∙ sym (cond-true _ _ _ b) in
     let e : held + c.lacking.result - held ≡ wanted held f = omega arith in
-    subst (λ (n : ℕ). Filled (g.L.Line.view c.args.line.now) f held n c.take-at.result (g.L.Line.view c.take-at.new.line) c.take-at.new.frame) e c.take-at.ensures
+    subst (λ (n : ℕ). Filled (g.L.Line.view c.args.line.now) f held n c.take_at.result (g.L.Line.view c.take_at.new.line) c.take_at.new.frame) e c.take_at.ensures

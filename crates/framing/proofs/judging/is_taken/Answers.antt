@@ -8,4 +8,4 @@ pub returns : goal.returns
 returns c =
     let e : c.if-bytes-gt2.byte ≡ get_or c.args.bytes.now 2 0 =
     elim c.if-bytes-gt2.branch [ then-bytes-gt2 w ↦ w.byte-is | else-bytes-gt2 w ↦ w.byte-is ∙ sym (get_or_past c.args.bytes.now 2 0 (omega arith)) ] in
-    c.is-among.ensures ∙ ap (λ (b : ℕ). among c.args.letters.now b) e
+    c.is_among.ensures ∙ ap (λ (b : ℕ). among c.args.letters.now b) e

@@ -2,4 +2,4 @@ use Rattle.std.proofs.Common.{rules}
 use Rattle.framing.proofs.posting.head.Goals as goal
 
 pub returns : goal.returns
-returns c = simp (c.to-le-bytes.ensures, c.number-bytes.ensures, c.byte.ensures)
+returns c = simp (c.to_le_bytes.ensures, c.number_bytes.ensures, c.byte.ensures)

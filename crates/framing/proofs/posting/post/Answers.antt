@@ -11,22 +11,22 @@ returns-then-room-size g c =
     let v = value_of c.args.packet in
     no_room v (g.L.Line.view c.args.line.now) c.args.out.now c.size.result (c.size.ensures ∙ sym (length_encode v)) (omega arith)
 
-pub returns-in-err-length : goal.returns-in-err-length
-returns-in-err-length g c =
+pub returns-in_err-length : goal.returns-in_err-length
+returns-in_err-length g c =
     let v = value_of c.args.packet in
     let d = g.L.Line.view c.args.line.now in
-    let r = err_from_is_err_and c.from-residual.result c.from-residual.ensures.1 in
-    let x = c.in-err-length.field-0.0 in
-    let e : c.from-residual.result ≡ Err x = r.1 ∙ ap Err r.2 in
+    let r = err_from_is_err_and c.from_residual.result c.from_residual.ensures.1 in
+    let x = c.in_err-length.field-0.0 in
+    let e : c.from_residual.result ≡ Err x = r.1 ∙ ap Err r.2 in
     let h : c.size.result ≤ d.room = omega arith in
-    unwritten v c.from-residual.result x d c.args.out.now c.write.new.out e (fitting v d c.size.result (c.size.ensures ∙ sym (length_encode v)) h) c.in-err-length.ensures
+    unwritten v c.from_residual.result x d c.args.out.now c.write.new.out e (fitting v d c.size.result (c.size.ensures ∙ sym (length_encode v)) h) c.in_err-length.ensures
 
 pub returns : goal.returns
 returns g c =
     let v = value_of c.args.packet in
     let d = g.L.Line.view c.args.line.now in
-    let w = c.in-ok-length.ensures in
-    let n = c.in-ok-length.length in
+    let w = c.in_ok-length.ensures in
+    let n = c.in_ok-length.length in
     let e : n ≡ length (encode v) = written_size v (length c.args.out.now) n (sym w.answer) in
     let h : n ≤ d.room = omega (arith, c.size.ensures, length_encode v) in
     posted v _ c.put.result d _ c.args.out.now _ n e h (written_posting v d _ n w.answer (fitting v d n e h)) w.buffer c.put.ensures

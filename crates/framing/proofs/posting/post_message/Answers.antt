@@ -8,24 +8,24 @@ use Rattle.framing.proofs.Posts.{posted, refused, lacking}
 use Rattle.framing.proofs.Messages.{held, message_size, message_posting}
 use Rattle.framing.proofs.posting.post_message.Goals as goal
 
-pub overflow-add-size : goal.overflow-add-size
-overflow-add-size g c =
-    let e = held (g.G.Log.view c.args.log.now) c.args.number _ c.in-ok-length.ensures in
+pub overflow_add-size : goal.overflow_add-size
+overflow_add-size g c =
+    let e = held (g.G.Log.view c.args.log.now) c.args.number _ c.in_ok-length.ensures in
     omega (arith, (g.met.G.Log.sound c.args.log.now).short (c.args.number - 1))
 
-pub overflow-cast-length : goal.overflow-cast-length
-overflow-cast-length g c =
-    let e = held (g.G.Log.view c.args.log.now) c.args.number _ c.in-ok-length.ensures in
+pub overflow_cast-length : goal.overflow_cast-length
+overflow_cast-length g c =
+    let e = held (g.G.Log.view c.args.log.now) c.args.number _ c.in_ok-length.ensures in
     omega (arith, (g.met.G.Log.sound c.args.log.now).short (c.args.number - 1))
 
-pub slice-bounds-put-end : goal.slice-bounds-put-end
-slice-bounds-put-end g c =
-    let e = held (g.G.Log.view c.args.log.now) c.args.number _ c.in-ok-length.ensures in
+pub slice_bounds-put-end : goal.slice_bounds-put-end
+slice_bounds-put-end g c =
+    let e = held (g.G.Log.view c.args.log.now) c.args.number _ c.in_ok-length.ensures in
     omega (arith, (g.met.G.Log.sound c.args.log.now).short (c.args.number - 1))
 
-pub lay-message-requires : goal.lay-message-requires
-lay-message-requires g c =
-    let e = held (g.G.Log.view c.args.log.now) c.args.number _ c.in-ok-length.ensures in
+pub lay_message-requires : goal.lay_message-requires
+lay_message-requires g c =
+    let e = held (g.G.Log.view c.args.log.now) c.args.number _ c.in_ok-length.ensures in
     record { there = e.0; bytes = e.1; room = omega arith }
 
 pub returns-then-room-size : goal.returns-then-room-size
@@ -33,9 +33,9 @@ returns-then-room-size g c =
     let l = g.G.Log.view c.args.log.now in
     let d = g.L.Line.view c.args.line.now in
     let n = c.args.number in
-    let e = held l n _ c.in-ok-length.ensures in
+    let e = held l n _ c.in_ok-length.ensures in
     let v = sequenced n (nth l n) in
-    let k : c.in-ok-length.length + 11 ≡ length (encode v) = omega (arith, message_size n (nth l n)) in
+    let k : c.in_ok-length.length + 11 ≡ length (encode v) = omega (arith, message_size n (nth l n)) in
     refused v (posting_message l n d (length c.args.out.now)) LineFull d c.args.out.now
     (message_posting l n d (length c.args.out.now) e.0 (omega arith) ∙ cond-false _ _ _ (lacking v d _ k (omega arith)))
 
@@ -45,8 +45,8 @@ returns g c =
     let d = g.L.Line.view c.args.line.now in
     let n = c.args.number in
     let o = c.args.out.now in
-    let e = held l n _ c.in-ok-length.ensures in
+    let e = held l n _ c.in_ok-length.ensures in
     let v = sequenced n (nth l n) in
-    let k : c.in-ok-length.length + 11 ≡ length (encode v) = omega (arith, message_size n (nth l n)) in
-    posted v (posting_message l n d (length o)) c.put.result d (g.L.Line.view c.put.new.self) o c.lay-message.new.out (c.in-ok-length.length + 11) k (omega arith)
-    (message_posting l n d (length o) e.0 (omega arith)) (c.lay-message.ensures ∙ ap (λ (i : ℕ). encode v ++ drop i o) (sym k)) c.put.ensures
+    let k : c.in_ok-length.length + 11 ≡ length (encode v) = omega (arith, message_size n (nth l n)) in
+    posted v (posting_message l n d (length o)) c.put.result d (g.L.Line.view c.put.new.self) o c.lay_message.new.out (c.in_ok-length.length + 11) k (omega arith)
+    (message_posting l n d (length o) e.0 (omega arith)) (c.lay_message.ensures ∙ ap (λ (i : ℕ). encode v ++ drop i o) (sym k)) c.put.ensures

@@ -16,18 +16,18 @@ use Rattle.seat.specs.declared.seats.Seat.{Seat}
 use Rattle.seat.proofs.Asks.{emptied, asks_refused, asks_granted, session_fits, number_fits, login_valid, login_fits}
 use Rattle.seat.proofs.seats.Seat.ask.Goals as goal
 
-pub returns-in-err-may-connect : goal.returns-in-err-may-connect
-returns-in-err-may-connect g c down frame =
+pub returns-in_err-may_connect : goal.returns-in_err-may_connect
+returns-in_err-may_connect g c down frame =
     let log = g.G.Log.view c.args.log.now in
     let up = g.U.Line.view c.args.up.now in
     let account = fields_of c.args.account.now in
     let out = c.args.out.now in
     let s = side_of c.args.self.now log up (cleared down) account frame out in
-    let e = c.in-err-may-connect.field-0.0 in
-    let r = err_from_is_err_and c.from-residual.result c.from-residual.ensures.1 in
+    let e = c.in_err-may_connect.field-0.0 in
+    let r = err_from_is_err_and c.from_residual.result c.from_residual.ensures.1 in
     let short : too_short out ≡ false = le-ltb (length out) packet_limit (omega arith) in
     ap (λ (x : Result (Unit {0}) Refusal). answered x s) (r.1 ∙ ap (λ (y : Refusal). Err y) r.2)
-    ∙ asks_refused c.args.how s e short (c.may-connect.ensures s ∙ c.in-err-may-connect.was) refl
+    ∙ asks_refused c.args.how s e short (c.may_connect.ensures s ∙ c.in_err-may_connect.was) refl
 
 pub write-requires : goal.write-requires
 write-requires g c =
@@ -64,6 +64,6 @@ returns g c down frame =
     let f : fits cleaned (encode v) ≡ true =
     ap (λ (x : LineView). fits x (encode v)) c.clear.ensures ∙ login_fits a.user a.computer a.protocol c.session.result c.number.result up u d p (g.met.U.Line.sound c.args.up.now) in
     ap (λ (r : Result (Unit {0}) Refusal). answered r (side_of c.write.new.self log up' (cleared down) (fields_of a) frame c.write.new.out)) (c.write.ensures.answer ∙ cond-true _ _ _ f)
-    ∙ asks_granted c.args.how seat begun c.write.new.self log up cleaned up' down (fields_of a) frame out c.write.new.out c.in-ok-may-connect.field-0 c.session.result c.number.result c.session.ensures c.number.ensures
-    short c.clear.ensures (c.may-connect.ensures (side_of seat log up (cleared down) (fields_of a) frame out) ∙ c.in-ok-may-connect.was)
+    ∙ asks_granted c.args.how seat begun c.write.new.self log up cleaned up' down (fields_of a) frame out c.write.new.out c.in_ok-may_connect.field-0 c.session.result c.number.result c.session.ensures c.number.ensures
+    short c.clear.ensures (c.may_connect.ensures (side_of seat log up (cleared down) (fields_of a) frame out) ∙ c.in_ok-may_connect.was)
     (c.asking.ensures (emptied (side_of seat log cleaned (cleared down) (fields_of a) frame out))) f (c.write.ensures.after log (cleared down) (fields_of a) frame)

@@ -28,8 +28,8 @@ returns-then-count-eq0 g c =
       fewer = tt;
     }
 
-pub returns-in-err-judge : goal.returns-in-err-judge
-returns-in-err-judge g c =
+pub returns-in_err-judge : goal.returns-in_err-judge
+returns-in_err-judge g c =
     let s = c.args.self.now in
     let v = g.D.Line.view c.args.down.now in
     let w = g.D.Line.view c.fill-count.new.line in
@@ -37,15 +37,15 @@ returns-in-err-judge g c =
     let buf' = c.fill-count.new.frame in
     let k = c.fill-count.result in
     let log = g.G.Log.view c.args.log.now in
-    let fault = c.in-err-judge.field-0.0 in
-    let r = err_from_is_err_and c.from-residual.result c.from-residual.ensures.1 in
-    let j = sym (ap answer_of c.in-err-judge.was) ∙ c.judge.ensures ∙ ap (λ (l : List Letter). judged l (take (s.filled + k - 0) buf')) c.letters.ensures in
+    let fault = c.in_err-judge.field-0.0 in
+    let r = err_from_is_err_and c.from_residual.result c.from_residual.ensures.1 in
+    let j = sym (ap answer_of c.in_err-judge.was) ∙ c.judge.ensures ∙ ap (λ (l : List Letter). judged l (take (s.filled + k - 0) buf')) c.letters.ensures in
     record {
       outcome = λ up account out.
           ap (λ (x : Result Received Fault). closing x (side_of (taken 0 s) log up w account buf' out)) (r.1 ∙ ap (λ (y : Fault). Err y) r.2)
           ∙ hears_judged s log up v w account buf buf' out k (Err fault) c.requires c.fill-count.ensures c.if-count-eq0.false j;
       free = fill_free v w buf buf' s.filled k c.requires c.fill-count.ensures;
-      fewer = fewer_any c.from-residual.result v w (fill_fewer v w buf buf' s.filled _ k c.if-count-eq0.false c.fill-count.ensures);
+      fewer = fewer_any c.from_residual.result v w (fill_fewer v w buf buf' s.filled _ k c.if-count-eq0.false c.fill-count.ensures);
     }
 
 pub returns-in-Part : goal.returns-in-Part
@@ -57,7 +57,7 @@ returns-in-Part g c =
     let buf' = c.fill-count.new.frame in
     let k = c.fill-count.result in
     let log = g.G.Log.view c.args.log.now in
-    let j = sym (ap answer_of (c.in-ok-judge.was ∙ ap (λ (x : Read). Ok x) c.in-Part.is)) ∙ c.judge.ensures ∙ ap (λ (l : List Letter). judged l (take (s.filled + k - 0) buf')) c.letters.ensures in
+    let j = sym (ap answer_of (c.in_ok-judge.was ∙ ap (λ (x : Read). Ok x) c.in-Part.is)) ∙ c.judge.ensures ∙ ap (λ (l : List Letter). judged l (take (s.filled + k - 0) buf')) c.letters.ensures in
     record {
       outcome = λ up account out.
           hears_judged s log up v w account buf buf' out k (Ok part) c.requires c.fill-count.ensures c.if-count-eq0.false j;
@@ -75,7 +75,7 @@ returns-in-Whole g c =
     let k = c.fill-count.result in
     let log = g.G.Log.view c.args.log.now in
     let packet = c.in-Whole.packet in
-    let j = sym (ap answer_of (c.in-ok-judge.was ∙ ap (λ (x : Read). Ok x) c.in-Whole.is)) ∙ c.judge.ensures ∙ ap (λ (l : List Letter). judged l (take (s.filled + k - 0) buf')) c.letters.ensures in
+    let j = sym (ap answer_of (c.in_ok-judge.was ∙ ap (λ (x : Read). Ok x) c.in-Whole.is)) ∙ c.judge.ensures ∙ ap (λ (l : List Letter). judged l (take (s.filled + k - 0) buf')) c.letters.ensures in
     record {
       outcome = λ up account out.
           c.act.ensures (side_of (taken 0 s) log up w account buf' out)

@@ -16,6 +16,6 @@ returns g c log down account frame =
     let out = c.args.out.now in
     let s = side_of c.args.self.now log up down account frame out in
     let short : too_short out ≡ false = le-ltb (length out) packet_limit (omega arith) in
-    let f : fits up (encode (logout_request X.Done [])) ≡ true = ap (λ (v : Value). fits up (encode v)) (sym c.logout.ensures) ∙ sym c.if-not-has-room.ensures in
+    let f : fits up (encode (logout_request X.Done [])) ≡ true = ap (λ (v : Value). fits up (encode v)) (sym c.logout.ensures) ∙ sym c.if-not-has_room.ensures in
     ap (λ (x : Pair). answered (Ok tt) x) (c.part.ensures log down account frame)
-    ∙ leaves_granted s short f (sym c.if-is-apart.ensures)
+    ∙ leaves_granted s short f (sym c.if-is_apart.ensures)

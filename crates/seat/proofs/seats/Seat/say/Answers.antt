@@ -14,7 +14,7 @@ returns-in-Live g c log down account frame =
     let out = c.args.out.now in
     let s = side_of c.args.self.now log up down account frame out in
     let t = side_of c.write.new.self log (g.U.Line.view c.write.new.up) down account frame c.write.new.out in
-    let f = sym c.if-not-has-room.ensures in
+    let f = sym c.if-not-has_room.ensures in
     let short : too_short out ≡ false = le-ltb (length out) packet_limit (omega arith) in
     ap (λ (r : Result (Unit {0}) Refusal). answered r t) (c.write.ensures.answer ∙ cond-true _ _ _ f)
     ∙ ap (λ (x : Pair). answered (Ok tt) x) (c.write.ensures.after log down account frame ∙ cond-true _ _ _ f)

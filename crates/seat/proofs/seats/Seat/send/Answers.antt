@@ -16,16 +16,16 @@ use Rattle.standing.specs.declared.standings.Standing.{Standing}
 use Rattle.seat.proofs.Writes.{requested_in, roomy_granted, roomy_refused, sends_granted, sends_none, sends_refused}
 use Rattle.seat.proofs.seats.Seat.send.Goals as goal
 
-pub returns-in-default : goal.returns-in-default
-returns-in-default g c down account frame =
+pub returns-in_default : goal.returns-in_default
+returns-in_default g c down account frame =
     let log = g.G.Log.view c.args.log.now in
     let out = c.args.out.now in
     let s = side_of c.args.self.now log (g.U.Line.view c.args.up.now) down account frame out in
     let short : too_short out ≡ false = le-ltb (length out) packet_limit (omega arith) in
-    sends_none c.args.self.now.standing log s c.due.result c.in-default.not-Some short (sym c.is-apart.ensures ∙ c.if-is-apart.false) refl (c.due.ensures.due s refl)
+    sends_none c.args.self.now.standing log s c.due.result c.in_default.not-Some short (sym c.is_apart.ensures ∙ c.if-is_apart.false) refl (c.due.ensures.due s refl)
 
-pub returns-in-err-write : goal.returns-in-err-write
-returns-in-err-write g c down account frame =
+pub returns-in_err-write : goal.returns-in_err-write
+returns-in_err-write g c down account frame =
     let v = value_of c.in-Some.due.packet in
     let up = g.U.Line.view c.args.up.now in
     let out = c.args.out.now in
@@ -33,11 +33,11 @@ returns-in-err-write g c down account frame =
     let s = side_of c.args.self.now log up down account frame out in
     let t = side_of c.write.new.self log (g.U.Line.view c.write.new.up) down account frame c.write.new.out in
     let short : too_short out ≡ false = le-ltb (length out) packet_limit (omega arith) in
-    let q = roomy_refused v up c.in-err-write.field-0.0 (sym c.write.ensures.answer ∙ c.in-err-write.was) in
-    let r = err_from_is_err_and c.from-residual.result c.from-residual.ensures.1 in
+    let q = roomy_refused v up c.in_err-write.field-0.0 (sym c.write.ensures.answer ∙ c.in_err-write.was) in
+    let r = err_from_is_err_and c.from_residual.result c.from_residual.ensures.1 in
     ap (λ (a : Result Sent Refusal). answered a t) (r.1 ∙ ap (λ (y : Refusal). Err y) (r.2 ∙ q.1))
     ∙ ap (λ (x : Pair). answered {R = Sent} (Err LineFull) x) (c.write.ensures.after log down account frame ∙ cond-false _ _ _ q.0)
-    ∙ sym (sends_refused s (requested_in c.in-Some.due.requested s) v short (sym c.is-apart.ensures ∙ c.if-is-apart.false) (c.in-Some.ensures.due s refl) q.0)
+    ∙ sym (sends_refused s (requested_in c.in-Some.due.requested s) v short (sym c.is_apart.ensures ∙ c.if-is_apart.false) (c.in-Some.ensures.due s refl) q.0)
 
 pub returns : goal.returns
 returns g c down account frame =
@@ -49,8 +49,8 @@ returns g c down account frame =
     let s = side_of c.args.self.now log up down account frame out in
     let t = side_of c.write.new.self log (g.U.Line.view c.write.new.up) down account frame c.write.new.out in
     let short : too_short out ≡ false = le-ltb (length out) packet_limit (omega arith) in
-    let f = roomy_granted v up c.in-ok-write.field-0 (sym c.write.ensures.answer ∙ c.in-ok-write.was) in
-    ap (λ (x : Standing). answered {R = Sent} (Ok (Wrote c.letter.result)) (side_of (record { standing = x; filled = c.write.new.self.filled; unsent = c.write.new.self.unsent; silent = c.write.new.self.silent }) log (g.U.Line.view c.write.new.up) down account frame c.write.new.out)) c.set-requested.ensures
+    let f = roomy_granted v up c.in_ok-write.field-0 (sym c.write.ensures.answer ∙ c.in_ok-write.was) in
+    ap (λ (x : Standing). answered {R = Sent} (Ok (Wrote c.letter.result)) (side_of (record { standing = x; filled = c.write.new.self.filled; unsent = c.write.new.self.unsent; silent = c.write.new.self.silent }) log (g.U.Line.view c.write.new.up) down account frame c.write.new.out)) c.set_requested.ensures
     ∙ ap (λ (l : Letter). answered {R = Sent} (Ok (Wrote l)) (requested_in requested t)) c.letter.ensures
     ∙ ap (λ (x : Pair). answered {R = Sent} (Ok (Wrote (letter v))) (requested_in requested x)) (c.write.ensures.after log down account frame ∙ cond-true _ _ _ f)
-    ∙ sym (sends_granted s (requested_in requested s) v short (sym c.is-apart.ensures ∙ c.if-is-apart.false) (c.in-Some.ensures.due s refl) f)
+    ∙ sym (sends_granted s (requested_in requested s) v short (sym c.is_apart.ensures ∙ c.if-is_apart.false) (c.in-Some.ensures.due s refl) f)
