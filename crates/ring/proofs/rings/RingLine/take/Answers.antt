@@ -15,6 +15,6 @@ returns c =
     (omega (arith, c.min-taken.ensures, c.min.ensures))
     (subst (λ q. Onward s.start k q c.onward-self.result) c.len.ensures c.onward-self.ensures)
     (ap (λ q. q ++ drop (k - 0) buffer)
-    (c.read-round.ensures ∙ ap (λ q. ringed q s.start (length (take (k - 0) buffer))) c.as-slice.ensures.value
+    (c.read_round.ensures ∙ ap (λ q. ringed q s.start (length (take (k - 0) buffer))) c.as_slice.ensures.value
     ∙ ap (λ q. ringed s.bytes.items s.start q) n)
     ∙ ap (λ q. ringed s.bytes.items s.start k ++ drop q buffer) z)
