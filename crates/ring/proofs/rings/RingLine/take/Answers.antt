@@ -1,5 +1,4 @@
-use Rattle.std.proofs.Common.{◌≡◌, ◌-◌, min, ◌++◌, length, take, drop, sym, ap, ◌∙◌, subst, arith, length-take}
-use Rattle.layout.specs.Limits.{packet_limit}
+use Rattle.std.proofs.Common.{◌≡◌, ◌-◌, ◌++◌, length, take, drop, sym, ap, ◌∙◌, subst, arith, length-take}
 use Rattle.ring.specs.Rings.{Onward, ringed}
 use Rattle.ring.specs.Views.{ring_take}
 use Rattle.ring.proofs.rings.RingLine.take.Goals as goal
