@@ -3,7 +3,7 @@ ghost use Rattle.any_line.specs.declared.any.AnyLine.TheVariants as K;
 ghost use Rattle.paced.specs.Pacing.{paced_view};
 ghost use Rattle.ring.specs.contracts.rings.RingLine.TheImpl.{ghosts as ring_line};
 ghost use Rattle.straight.specs.contracts.straights.StraightLine.TheImpl.{ghosts as straight_line};
-ghost use Rattle.paced.proofs.Views.{paced_sound};
+ghost use Rattle.paced.specs.Views.{paced_sound};
 ghost use Rattle.any_line.specs.AnyLineLineLemmas.{of_ring, of_straight};
 
 use fault::Refusal;

@@ -2,7 +2,7 @@
 //!
 //! Left out: the kinds themselves, which are in the crates `ring`, `straight` and `paced`, and how each is
 //! made. A program that knows its kind when it is written needs none of this.
-//! The types: `AnyLine`, and `AnyLineLine`, by which it is a line.
+//! The type: `AnyLine`, which is a line.
 #![tactic(auto)]
 
 pub mod any;

@@ -1,5 +1,5 @@
 -- The steps of a transfer.
-use Rattle.std.proofs.Common.{◌≡◌, ℕ, ◌+◌, ◌-◌, ◌≤◌, min, List, [], ◌++◌, length, take, drop, Result, sym, refl, ap, ◌∙◌, append_assoc, append-nil, arith, length-append}
+use Rattle.std.proofs.Common.{◌≡◌, ℕ, ◌+◌, ◌-◌, ◌≤◌, List, [], ◌++◌, length, take, drop, Result, sym, refl, ap, ◌∙◌, append_assoc, append-nil, arith, length-append}
 use Rattle.fault.specs.declared.refusals.Refusal.{Refusal}
 use Rattle.line.specs.Lines.{LineView, Put, Taken, joined}
 use Rattle.line.specs.Transfers.{Moved}

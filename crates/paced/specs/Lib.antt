@@ -1,1 +1,2 @@
 pub mod Pacing
+pub mod Views

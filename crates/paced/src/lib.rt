@@ -4,7 +4,7 @@
 //! that of the line under it, but for the hand-out limit: the smaller of that line's limit and the layer's own
 //! number. That is shown from the meaning of the line under it alone.
 //!
-//! The types: `Paced`, and `PacedLine`, by which it is a line.
+//! The type: `Paced`, which is a line.
 #![tactic(auto)]
 
 pub mod pacing;

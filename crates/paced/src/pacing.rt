@@ -2,7 +2,7 @@
 ghost use Rattle.std.specs.Prelude.{◌≡◌};
 ghost use Rattle.line.specs.Making.{Makes};
 ghost use Rattle.paced.specs.Pacing.{Pace, paced_view};
-ghost use Rattle.std.proofs.Common.{rules, arith};
+ghost use Rattle.paced.specs.Views.{paced_sound};
 
 use fault::{Refusal, Unmade};
 use layout::PACKET_LIMIT;
@@ -38,7 +38,7 @@ impl<L: Line> Paced<L> {
 impl<L: Line> Line for Paced<L> {
     ghost view = { λ s. paced_view (L.Line.view s.line) s.pace };
 
-    ghost sound = { first_of (Prim.search rules, Prim.grind (arith, Self.row.coded.inj)) };
+    ghost sound = { λ s. paced_sound (L.Line.sound s.line) s.ok };
 
     fn waiting(&self) -> usize {
         self.line.waiting()

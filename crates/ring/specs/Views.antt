@@ -1,9 +1,9 @@
 -- A ring keeps the meaning of a line.
-use Rattle.std.specs.Prelude.{◌≡◌, ℕ, ◌+◌, ◌-◌, ◌≤◌, min, cond, List, [], ◌++◌, length, take, drop, Ok, refl}
+use Rattle.std.specs.Prelude.{◌≡◌, ℕ, ◌+◌, ◌-◌, ◌≤◌, min, List, ◌++◌, length, take, drop, Ok, refl}
 use Rattle.std.proofs.Common.{sym, ap, subst, ◌∙◌, arith}
 use Rattle.std.proofs.lemmas.List.{take_at, drop_at}
 use Rattle.layout.specs.Limits.{packet_limit}
-use Rattle.line.specs.Lines.{LineView, Sound, Put, Taken}
+use Rattle.line.specs.Lines.{Sound, Put, Taken}
 use Rattle.line.proofs.Takes.{same_view, put_granted}
 use Rattle.ring.specs.Rings.{InRing, Onward, LaidRound, ringed, ring_view}
 use Rattle.ring.specs.Rounds.{ringed_length, ringed_split, ringed_put}

@@ -11,7 +11,7 @@
 //!
 //! The room is the size less what waits, and the hand-out limit is the longest packet. A put and a take each
 //! copy at most two parts. Left out: the meaning of a line, which is in the crate `line`.
-//! The types: `Ring`, and `RingLine`, by which it is a line.
+//! The type: `Ring`, which is a line.
 #![tactic(auto)]
 
 mod places;

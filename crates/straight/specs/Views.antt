@@ -1,5 +1,5 @@
 -- A straight line keeps the meaning of a line.
-use Rattle.std.specs.Prelude.{◌≡◌, ℕ, suc, ◌+◌, ◌-◌, ◌<◌, ◌≤◌, List, [], ◌∷◌, ◌++◌, length, take, drop, Ok, slice_index_or, slice_range, slice_set, refl}
+use Rattle.std.specs.Prelude.{◌≡◌, ℕ, suc, ◌+◌, ◌-◌, ◌<◌, ◌≤◌, List, ◌∷◌, ◌++◌, length, take, drop, Ok, slice_index_or, slice_range, slice_set}
 use Rattle.std.proofs.Common.{sym, ap, ◌∙◌, append_assoc, arith, length-drop, length-take, length-append}
 use Rattle.std.proofs.lemmas.List.{drop-append-le, take_at, drop_more, drop-set, drop-take}
 use Rattle.line.specs.Lines.{LineView, Sound, Put, Taken}

@@ -9,7 +9,7 @@
 //! ```
 //!
 //! The hand-out limit is 1: a take hands over one byte. Left out: the meaning of a line, which is in the crate
-//! `line`. The types: `Straight`, and `StraightLine`, by which it is a line.
+//! `line`. The type: `Straight`, which is a line.
 #![tactic(auto)]
 
 pub mod straights;

@@ -1,4 +1,4 @@
-use Rattle.std.proofs.Common.{◌≡◌, ℕ, ◌+◌, ◌-◌, ◌≤◌, min, List, ◌++◌, length, take, sym, refl, ap, ◌∙◌, arith, length-append, length-take, true-eqb, false-eqb}
+use Rattle.std.proofs.Common.{◌≡◌, ℕ, ◌+◌, ◌-◌, ◌≤◌, min, List, ◌++◌, length, take, refl, ap, ◌∙◌, arith, length-append, length-take, true-eqb, false-eqb}
 use borrow.Rule.Slice.PartMut.{post_of}
 use Rattle.std.proofs.lemmas.List.{nil_from_length}
 use Rattle.line.specs.Lines.{LineView, Taken}
@@ -7,16 +7,16 @@ use Rattle.line.proofs.Takes.{rest_length, part_length, part_piece, part_rest}
 use Rattle.line.proofs.Moves.{moved_more, moved_end}
 use Rattle.line.proofs.transfers.transfer.Goals as goal
 
-pub returns-then-is-empty : goal.returns-then-is-empty
-returns-then-is-empty g c =
-    (nil_from_length c.args.buffer.now (true-eqb (length c.args.buffer.now) 0 c.if-is-empty.ensures), refl, refl, refl, refl)
+pub returns-then-is_empty : goal.returns-then-is_empty
+returns-then-is_empty g c =
+    (nil_from_length c.args.buffer.now (true-eqb (length c.args.buffer.now) 0 c.if-is_empty.ensures), refl, refl, refl, refl)
 
 -- what moved and what stayed are as long as what waited
 lengths : {v d w e : LineView} {n : ℕ} (m : Moved v d n w e) → n + length w.waiting ≡ length v.waiting
 lengths {v} {d} {w} {e} {n} m = omega (arith, simp length-append at (ap length m.whole), m.count)
 
-pub overflow-sub-result : goal.overflow-sub-result
-overflow-sub-result g c =
+pub overflow_sub-result : goal.overflow_sub-result
+overflow_sub-result g c =
     omega (arith, lengths c.loop-from.invariant.0, c.waiting.ensures, c.waiting-before.ensures, rest_length c.take-taken.ensures)
 
 -- one more take leaves of the buffer what no take reaches
@@ -32,7 +32,7 @@ returns-then-taken-eq0 g c =
     let l = lengths c.loop-from.invariant.0 in
     let s = rest_length c.take-taken.ensures in
     let some : 1 ≤ length c.args.buffer.now =
-    omega (arith, false-eqb (length c.args.buffer.now) 0 c.if-is-empty.ensures) in (
+    omega (arith, false-eqb (length c.args.buffer.now) 0 c.if-is_empty.ensures) in (
       some,
       moved_end _ c.loop-from.invariant.0 c.take-taken.ensures c.if-taken-eq0.true
           (omega (arith, c.waiting.ensures, c.waiting-before.ensures)),

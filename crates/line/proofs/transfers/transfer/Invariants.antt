@@ -1,5 +1,4 @@
-use Rattle.std.proofs.Common.{ℕ, ◌-◌, length}
-use Rattle.line.specs.Lines.{LineView}
+use Rattle.std.proofs.Common.{◌-◌, length}
 use Rattle.line.specs.Transfers.{Moved, Scratch}
 use Rattle.line.proofs.transfers.transfer.Given as goal
 

@@ -18,7 +18,7 @@ loop-sent-init g c = (
 pub send-requires : goal.send-requires
 send-requires g c =
     record {
-      some = omega (arith, c.as-mut-slice.ensures.len, c.loop-sent.invariant.2, c.args.piece.ok.0);
+      some = omega (arith, c.as_mut_slice.ensures.len, c.loop-sent.invariant.2, c.args.piece.ok.0);
       most = simp (length-take, length-drop) (omega (arith, c.min-n.ensures, c.bytes-in-loop-sent.ensures, c.args.piece.ok.1));
     }
 
@@ -35,7 +35,7 @@ loop-sent-preserved g c =
     let min_is : n ≡ min size (length input - sent) = omega (arith, c.min-n.ensures, c.bytes-in-loop-sent.ensures) in
     let cut : piece ≡ next_piece input size (take sent input) =
     ap (λ i. take i (drop sent input)) z ∙ next_cut input size sent n c.loop-sent.invariant.1 min_is in
-    let long : length c.as-mut-slice.result.now ≡ size = c.as-mut-slice.ensures.len ∙ c.loop-sent.invariant.2 in
+    let long : length c.as_mut_slice.result.now ≡ size = c.as_mut_slice.ensures.len ∙ c.loop-sent.invariant.2 in
     let after = pump (g.L.Line.view c.send.new.line) (take sent input ++ piece) c.send.new.account in
     let went : Steps input size (pump (g.L.Line.view c.loop-sent.line) (take sent input) c.loop-sent.account) after =
     subst (λ q. piece ≡ next_piece input q (take sent input) → Steps input q (pump (g.L.Line.view c.loop-sent.line) (take sent input) c.loop-sent.account) after)
@@ -53,7 +53,7 @@ returns g c =
     let sent = c.loop-sent.sent in
     let w = g.L.Line.view c.drain.new.line in
     let a = c.drain.new.account in
-    let long : length c.as-mut-slice-2.result.now ≡ size = c.as-mut-slice-2.ensures.len ∙ c.loop-sent.invariant.2 in
+    let long : length c.as_mut_slice-2.result.now ≡ size = c.as_mut_slice-2.ensures.len ∙ c.loop-sent.invariant.2 in
     let drawn : Steps input size (pump (g.L.Line.view c.loop-sent.line) (take sent input) c.loop-sent.account) (pump w (take sent input) a) =
     subst (λ q. Steps input q (pump (g.L.Line.view c.loop-sent.line) (take sent input) c.loop-sent.account) (pump w (take sent input) a))
     long (c.in-ok-drain.ensures.0 input (take sent input)) in

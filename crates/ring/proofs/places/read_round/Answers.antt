@@ -9,7 +9,7 @@ returns-then-n-ahead c =
     let at = c.args.at in
     let n = length c.args.out.now in
     let z : (at + n) - at ≡ n = omega arith in
-    c.copy-from-slice.ensures.after
+    c.copy_from_slice.ensures.after
     ∙ ap (λ i. take i (drop at xs)) z
     ∙ sym (near xs at n (omega (arith, c.requires)) (omega (arith, c.requires)))
 
@@ -19,11 +19,11 @@ returns-else-n-ahead c =
     let at = c.args.at in
     let n = length c.args.out.now in
     let a = length xs - at in
-    let first = c.copy-from-slice-else-n-ahead.new.self in
-    let second = c.copy-from-slice-else-n-ahead-2.new.self in
-    let f : first ≡ drop at xs = c.copy-from-slice-else-n-ahead.ensures.after ∙ take_rest xs at in
+    let first = c.copy_from_slice-else-n-ahead.new.self in
+    let second = c.copy_from_slice-else-n-ahead-2.new.self in
+    let f : first ≡ drop at xs = c.copy_from_slice-else-n-ahead.ensures.after ∙ take_rest xs at in
     let z : (n - a) - 0 ≡ n - a = omega arith in
-    let b : second ≡ take (n - a) xs = c.copy-from-slice-else-n-ahead-2.ensures.after ∙ ap (λ i. take i xs) z in
+    let b : second ≡ take (n - a) xs = c.copy_from_slice-else-n-ahead-2.ensures.after ∙ ap (λ i. take i xs) z in
     two_parts first second _ a (ap length f ∙ length-drop at xs)
     ∙ ap (λ q. q ++ second) f
     ∙ ap (λ q. drop at xs ++ q) b

@@ -1,5 +1,5 @@
 use native.Mathlib.Omega.{arith}
-use Rattle.paced.proofs.Views.{paced_take}
+use Rattle.paced.specs.Views.{paced_take}
 use Rattle.paced.proofs.pacing.PacedLine.take.Goals as goal
 
 pub returns : goal.returns

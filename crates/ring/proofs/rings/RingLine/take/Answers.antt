@@ -1,5 +1,4 @@
-use Rattle.std.proofs.Common.{◌≡◌, ◌-◌, min, ◌++◌, length, take, drop, sym, ap, ◌∙◌, subst, arith, length-take}
-use Rattle.layout.specs.Limits.{packet_limit}
+use Rattle.std.proofs.Common.{◌≡◌, ◌-◌, ◌++◌, length, take, drop, sym, ap, ◌∙◌, subst, arith, length-take}
 use Rattle.ring.specs.Rings.{Onward, ringed}
 use Rattle.ring.specs.Views.{ring_take}
 use Rattle.ring.proofs.rings.RingLine.take.Goals as goal
@@ -15,6 +14,6 @@ returns c =
     (omega (arith, c.min-taken.ensures, c.min.ensures))
     (subst (λ q. Onward s.start k q c.onward-self.result) c.len.ensures c.onward-self.ensures)
     (ap (λ q. q ++ drop (k - 0) buffer)
-    (c.read-round.ensures ∙ ap (λ q. ringed q s.start (length (take (k - 0) buffer))) c.as-slice.ensures.value
+    (c.read_round.ensures ∙ ap (λ q. ringed q s.start (length (take (k - 0) buffer))) c.as_slice.ensures.value
     ∙ ap (λ q. ringed s.bytes.items s.start q) n)
     ∙ ap (λ q. ringed s.bytes.items s.start k ++ drop q buffer) z)

@@ -9,6 +9,6 @@ returns c =
     let s = c.args.self.now in
     let piece = c.args.piece.now in
     straight_put s.bytes.items s.bytes.len s.start s.end (sym s.bytes.ok.0) s.ok piece _ (omega arith)
-    (with_items_is s.bytes c.lay.new.places (omega (arith, c.lay.auto.places, s.bytes.ok.0, c.as-mut-slice.ensures.len))
+    (with_items_is s.bytes c.lay.new.places (omega (arith, c.lay.auto.places, s.bytes.ok.0, c.as_mut_slice.ensures.len))
     ∙ c.lay.ensures
-    ∙ ap (λ q. laid q s.end piece) c.as-mut-slice.ensures.value)
+    ∙ ap (λ q. laid q s.end piece) c.as_mut_slice.ensures.value)

@@ -1,4 +1,4 @@
-use Rattle.std.proofs.Common.{◌≡◌, ◌+◌, ◌-◌, ◌≤◌, length, take, drop, sym, refl, ap, ◌∙◌, arith, false-eqb}
+use Rattle.std.proofs.Common.{◌≡◌, ◌+◌, ◌-◌, ◌≤◌, length, take, drop, sym, refl, ap, arith, false-eqb}
 use Rattle.straight.specs.Views.{straight_took}
 use Rattle.straight.proofs.straights.StraightLine.take.Goals as goal
 
@@ -8,7 +8,7 @@ returns-then-self-2 c =
     let b = c.args.buffer.now in
     let z : 0 ≡ s.end - (s.start + 1) = omega (arith, c.if-self-2.true) in
     straight_took s.bytes.items s.bytes.len s.start s.end (sym s.bytes.ok.0) s.ok b c.index.result.now _
-    (omega (arith, c.if-self.false, s.ok.0)) (omega (arith, false-eqb (length b) 0 c.if-is-empty.ensures)) c.index.ensures
+    (omega (arith, c.if-self.false, s.ok.0)) (omega (arith, false-eqb (length b) 0 c.if-is_empty.ensures)) c.index.ensures
     (ap (λ n. take n (drop (s.start + 1) s.bytes.items)) z)
     (omega arith) refl refl
 
@@ -18,5 +18,5 @@ returns-else-self-2 c =
     let b = c.args.buffer.now in
     let h : s.bytes.len - s.end ≤ s.bytes.len - s.end = omega arith in
     straight_took s.bytes.items s.bytes.len s.start s.end (sym s.bytes.ok.0) s.ok b c.index.result.now _
-    (omega (arith, c.if-self.false, s.ok.0)) (omega (arith, false-eqb (length b) 0 c.if-is-empty.ensures)) c.index.ensures
+    (omega (arith, c.if-self.false, s.ok.0)) (omega (arith, false-eqb (length b) 0 c.if-is_empty.ensures)) c.index.ensures
     refl h refl refl
