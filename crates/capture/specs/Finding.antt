@@ -14,13 +14,13 @@ pub record Part (bs : List ℕ) : Type 0 where
   pub short : length bs < packet_limit
 
 -- a packet: it stands at the front as it is written, and takes as many bytes
-pub record Packet-at (bs : List ℕ) (v : Value) (size : ℕ) : Type 0 where
+pub record PacketAt (bs : List ℕ) (v : Value) (size : ℕ) : Type 0 where
   pub is : decode bs ≡ Ok (whole v)
   pub takes : size ≡ length (encode v)
   pub front : bs ≡ encode v ++ drop size bs
 
 abbrev pub Tells : List ℕ → Result (Option Found) Fault → Type 0
 Tells bs (Ok None) = Part bs
-Tells bs (Ok (Some found)) = Packet-at bs (value_of found.packet) found.size
+Tells bs (Ok (Some found)) = PacketAt bs (value_of found.packet) found.size
 Tells bs (Err (F.Packet fault)) = decode bs ≡ Err fault
 Tells bs (Err (F.Log fault)) = ⊥

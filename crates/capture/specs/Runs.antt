@@ -1,6 +1,6 @@
 -- A capture as it is read: bytes come in, and packets are told.
 use Rattle.std.specs.Prelude.{◌≡◌, ℕ, List, [], ◌∷◌, ◌++◌, length, drop, Ok, ◌≢◌}
-use Rattle.std.specs.List.{flat_map, AllByRecursion as All}
+use Rattle.std.specs.List.{flat_map, AllByRecursion}
 use Rattle.packet.specs.Values.{Value, Valid, encode}
 use Rattle.packet.specs.Decoding.{whole, decode}
 use Rattle.packet.specs.Laws.{Bytes}
@@ -16,7 +16,7 @@ pub data Run : List ℕ → List Value → List ℕ → Type 0 where
 -- the bytes are the packets told, as they are written, one after the other, and then those held
 pub record Accounted (bs : List ℕ) (vs : List Value) (held : List ℕ) : Type 0 where
   pub split : bs ≡ flat_map encode vs ++ held
-  pub valid : All Valid vs
+  pub valid : AllByRecursion Valid vs
 
 abbrev pub AccountsForEveryByte : Type 0
 AccountsForEveryByte = (bs : List ℕ) (vs : List Value) (held : List ℕ) → Bytes bs → Run bs vs held → Accounted bs vs held

@@ -7,7 +7,7 @@ use Rattle.fault.specs.declared.faults.Fault.{Fault}
 use Rattle.fault.specs.declared.faults.Fault.TheVariants as F
 use Rattle.packet.specs.Values.{Value, encode, letter}
 use Rattle.packet.specs.Decoding.{part, whole, decode}
-use Rattle.capture.specs.Finding.{Part, Packet-at, Tells}
+use Rattle.capture.specs.Finding.{Part, PacketAt, Tells}
 use Rattle.capture.specs.Runs.{Run, start, came, told}
 use Rattle.capture.specs.Tallies.{raised}
 use Rattle.capture.specs.Windows.{Grown}
@@ -58,7 +58,7 @@ module _ (held counts : List ℕ) (offset : ℕ) where
       read_on held' r p m bs vs run counts' offset' k'
 
   -- a packet
-  pub turned_told : (v : Value) (size : ℕ) (held' counts' : List ℕ) (offset' : ℕ) → Packet-at held v size → held' ≡ drop size held → counts' ≡ raised counts (letter v) → offset' ≡ min (offset + size) (2 ^ 64 - 1) → Turned held counts offset held' counts' offset' (Ok None)
+  pub turned_told : (v : Value) (size : ℕ) (held' counts' : List ℕ) (offset' : ℕ) → PacketAt held v size → held' ≡ drop size held → counts' ≡ raised counts (letter v) → offset' ≡ min (offset + size) (2 ^ 64 - 1) → Turned held counts offset held' counts' offset' (Ok None)
   turned_told v size held' counts' offset' p e c o bs vs r k =
       let ws : List Value = vs ++ v ∷ [] in
       let w : held' ≡ drop (length (encode v)) held = e ∙ ap (λ (i : ℕ). drop i held) p.takes in

@@ -1,6 +1,6 @@
 -- Worked examples: bytes, and what a reader says of them.
 use Rattle.std.specs.Prelude.{◌≡◌, ℕ, List, [], ◌∷◌, Ok, Err, Result}
-use Rattle.std.specs.List.{AllByRecursion as All}
+use Rattle.std.specs.List.{AllByRecursion}
 use Rattle.fault.specs.declared.faults.PacketFault.{PacketFault}
 use Rattle.fault.specs.declared.faults.PacketFault.TheVariants.{LengthZero, LengthOverLimit, WrongLength}
 use Rattle.layout.specs.declared.statuses.Status.TheVariants.{Accepted}
@@ -26,4 +26,4 @@ examples =
     ∷ []
 
 abbrev pub ExamplesHold : Type 0
-ExamplesHold = All (λ (x : Example). decode x.bytes ≡ x.says) examples
+ExamplesHold = AllByRecursion (λ (x : Example). decode x.bytes ≡ x.says) examples

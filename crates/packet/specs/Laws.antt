@@ -1,6 +1,6 @@
 -- What holds of reading and writing together, in words that do not follow the steps of either.
 use Rattle.std.specs.Prelude.{◌≡◌, ℕ, ◌<◌, ◌≤◌, List, ◌++◌, length, take, drop, Ok, Err, Result, ◌≢◌}
-use Rattle.std.specs.List.{AllByRecursion as All}
+use Rattle.std.specs.List.{AllByRecursion}
 use Rattle.fault.specs.declared.faults.Field.TheVariants as Field
 use Rattle.fault.specs.declared.faults.PacketFault.{PacketFault}
 use Rattle.fault.specs.declared.faults.PacketFault.TheVariants.{LengthZero, LengthOverLimit, UnknownLetter, OutOfPlace, WrongLength, WrongContent}
@@ -9,7 +9,7 @@ use Rattle.packet.specs.Values.{Value, Valid, encode}
 use Rattle.packet.specs.Decoding.{Answer, part, whole, head_number, decode}
 
 abbrev pub Bytes : List ℕ → Type 0
-Bytes bs = All (λ b. b < 256) bs
+Bytes bs = AllByRecursion (λ b. b < 256) bs
 
 -- a written packet reads back as itself, whatever comes after it
 abbrev pub ReadsBack : Type 0

@@ -8,4 +8,4 @@ pub loop-preserved : goal.loop-preserved
 loop-preserved g c = reached_more _ _ _ _ _ _ c.loop.invariant c.turn.result c.turn.ensures
 
 pub returns-in-Some : goal.returns-in-Some
-returns-in-Some g c = reached_end _ _ _ _ _ _ c.loop.invariant c.in-ok-ending.field-0 c.in-Some.ending c.in-Some.is c.in-ok-ending.ensures
+returns-in-Some g c = reached_end _ _ _ _ _ _ c.loop.invariant c.in_ok-ending.field-0 c.in-Some.ending c.in-Some.is c.in_ok-ending.ensures

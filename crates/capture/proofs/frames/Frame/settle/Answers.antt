@@ -9,6 +9,6 @@ returns c =
     let from = c.args.self.now.from in
     let to = c.args.self.now.to in
     record {
-      same = ap (λ (x : List ℕ). window x 0 (to - from)) c.copy-within.ensures.after ∙ window_settle m from to (omega arith) (omega arith);
+      same = ap (λ (x : List ℕ). window x 0 (to - from)) c.copy_within.ensures.after ∙ window_settle m from to (omega arith) (omega arith);
       front = refl;
     }
