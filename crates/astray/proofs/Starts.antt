@@ -44,9 +44,9 @@ log_sound session messages byte silent fits placed a =
       bytes = λ k. (at_every Fair [] messages nothing_fair a k).bytes;
       byte = byte;
       silent = silent;
-      size_limit_lem = omega arith;
+      size_within = omega arith;
       overhead_limit = omega arith;
-      places_limit_lem = omega arith;
+      places_within = omega arith;
     }
 
 line_sound : (limit : ℕ) → 1 ≤ limit → Line.Steady (line_of limit [])

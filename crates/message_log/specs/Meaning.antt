@@ -48,6 +48,6 @@ pub record Sound (l : Meaning) : Type 0 where
   pub bytes : (k i : ℕ) → slice_index (slice_index_or l.messages k []) i < 256
   pub byte : l.session ≤ 255
   pub silent : l.session ≡ 0 → l.messages ≡ []
-  pub size_limit_lem : l.size ≤ size_limit
+  pub size_within : l.size ≤ size_limit
   pub overhead_limit : l.overhead ≤ size_limit
-  pub places_limit_lem : l.places ≤ size_limit
+  pub places_within : l.places ≤ size_limit

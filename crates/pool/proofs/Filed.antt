@@ -130,9 +130,9 @@ sound_filed s pool at gap size places n r w f p none bytes byte small long few =
       ];
       byte = omega arith;
       silent = λ z. ap (parts pool at gap) (none z);
-      size_limit_lem = omega arith;
+      size_within = omega arith;
       overhead_limit = omega arith;
-      places_limit_lem = few;
+      places_within = few;
     }
 
 -- there is a message k, from 1

@@ -42,7 +42,7 @@ follows_begins seat hub =
     (λ t e. let p = and_parts _ _ e in inr (eqb-true _ _ p.0, first_begins seat.messages hub.messages p.1))
 
 begun_sound : (l : Meaning) → Log.Sound l → Log.Sound (begun l first_session)
-begun_sound l i = record { fits = omega arith; placed = omega arith; short = λ k. omega arith; bytes = λ k j. omega arith; byte = omega arith; silent = λ e. refl; size_limit_lem = i.size_limit_lem; overhead_limit = i.overhead_limit; places_limit_lem = i.places_limit_lem }
+begun_sound l i = record { fits = omega arith; placed = omega arith; short = λ k. omega arith; bytes = λ k j. omega arith; byte = omega arith; silent = λ e. refl; size_within = i.size_within; overhead_limit = i.overhead_limit; places_within = i.places_within }
 
 started_sound : (l : Meaning) → Log.Sound l → Log.Sound (started l) × (0 < (started l).session)
 started_sound l i =

@@ -345,7 +345,7 @@ set_up_sound s u =
       begun = u.begun;
       small = omega (arith, u.hub_log_sound.byte);
       few = u.hub_log_sound.placed;
-      places = u.hub_log_sound.places_limit_lem;
+      places = u.hub_log_sound.places_within;
       short = u.hub_log_sound.short;
       held = ⊎_elim (λ z. subst (λ ms. Begins ms ((opened k).lists s.held.session)) (sym z.1) ((opened k).lists s.held.session, refl))
           (λ z. subst (λ x. Begins s.held.messages ((opened k).lists x)) (sym z.0) (subst (λ ms. Begins s.held.messages ms) (sym (opened_at k)) z.1)) u.beginning;

@@ -564,7 +564,7 @@ run_tru begins i tr = tr
 run_tru (goes_on {w = m} r c d h) i tr = step_tru m.note m.book m.pair c d h (run_keeps r i).0 (run_tru r i tr)
 
 pub set_up_tru : (s : Pair) → SetUp s → Truth None (opened s.running.log) s
-set_up_tru s u = record { notes = λ k e. clash (cc); truth = λ e. clash (cc (e, u.unreported)); user = u.user; computer = u.computer; protocol = u.protocol; few = u.seat_log_sound.placed; places = u.seat_log_sound.places_limit_lem; way = gone u.apart }
+set_up_tru s u = record { notes = λ k e. clash (cc); truth = λ e. clash (cc (e, u.unreported)); user = u.user; computer = u.computer; protocol = u.protocol; few = u.seat_log_sound.placed; places = u.seat_log_sound.places_within; way = gone u.apart }
 
 pub history_tru : (o : Pair) (w : World) → History Step o w → Truth w.note w.book w.pair
 history_tru o w (u, r) = run_tru r (set_up_sound o u) (set_up_tru o u)

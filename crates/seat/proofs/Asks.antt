@@ -75,7 +75,7 @@ session_fits Anew log h = omega arith
 session_fits (Fetch end) log h = omega (arith, h.byte)
 
 pub number_fits : (how : How) (log : Meaning) → Log.Sound log → asked_number how log < 256 ^ 8
-number_fits Join log h = omega (arith, h.placed, h.places_limit_lem)
+number_fits Join log h = omega (arith, h.placed, h.places_within)
 number_fits Anew log h = omega arith
 number_fits (Fetch end) log h = omega arith
 
