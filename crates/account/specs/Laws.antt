@@ -1,6 +1,6 @@
 -- What holds of lookups, marks and logins, in words that do not follow the steps of the definitions.
 use Rattle.std.specs.Prelude.{◌≡◌, ℕ, ◌+◌, ◌<◌, ◌≤◌, Bool, true, false, ◌⊎◌, List, map, length, Some, None, Ok, Err, Decides, Option, Result, ◌≢◌, slice_index_or}
-use Rattle.std.specs.List.{AllByRecursion as All}
+use Rattle.std.specs.List.{AllByRecursion}
 use Rattle.layout.specs.declared.statuses.Status.{Status}
 use Rattle.layout.specs.declared.statuses.Status.TheVariants.{Accepted}
 use Rattle.account.specs.declared.rows.Row.{Row}
@@ -97,7 +97,7 @@ LetsInOne = (rows : List Row) (i : ℕ) (session highest : ℕ) (asked : Asked) 
 pub record IsField (width : ℕ) (text : List ℕ) : Type 0 where
   pub some : 1 ≤ length text
   pub narrow : length text ≤ width
-  pub seen : All (λ b. (0x21 ≤ b) × (b ≤ 0x7E)) text
+  pub seen : AllByRecursion (λ b. (0x21 ≤ b) × (b ≤ 0x7E)) text
 
 -- just those are good, and padded they fill the field
 pub record JudgedRight (width : ℕ) (text : List ℕ) : Type 0 where

@@ -1,6 +1,6 @@
 -- Worked examples of the rules, on a small pair.
 use Rattle.std.specs.Prelude.{◌≡◌, ℕ, zero, suc, ◌-◌, Bool, true, false, List, [], ◌∷◌, replicate, Some, None, Ok, Err, Option, Result}
-use Rattle.std.specs.List.{AllByRecursion as All}
+use Rattle.std.specs.List.{AllByRecursion}
 use Rattle.fault.specs.declared.faults.Field.TheVariants as Field
 use Rattle.fault.specs.declared.faults.PacketFault.TheVariants.{LengthZero, OutOfPlace, WrongLength, WrongContent}
 use Rattle.fault.specs.declared.refusals.Refusal.{Refusal}
