@@ -1,5 +1,5 @@
 -- A frame that is a part of a packet, in its buffer.
-use Rattle.std.proofs.Common.{◌≡◌, ℕ, ◌+◌, ◌-◌, ◌<◌, ◌≤◌, min, Bool, true, false, cond, ltb, List, [], length, get_or, take, drop, Ok, Err, Result, sym, refl, ap, ◌∙◌, ⊎_elim, arith, length-append, length-drop, length-take}
+use Rattle.std.proofs.Common.{◌≡◌, ℕ, ◌+◌, ◌-◌, ◌<◌, ◌≤◌, min, Bool, true, false, ltb, List, [], length, get_or, take, drop, Ok, Err, Result, sym, refl, ◌∙◌, ⊎_elim, arith, length-append, length-drop, length-take}
 use Rattle.std.proofs.lemmas.Bool.{cases_lt, cond-true, cond-false, lt-ltb, le-ltb, ltb-true}
 use Rattle.fault.specs.declared.faults.PacketFault.{PacketFault}
 use Rattle.fault.specs.declared.faults.PacketFault.TheVariants.{LengthZero, LengthOverLimit, UnknownLetter, OutOfPlace, WrongLength, WrongContent}

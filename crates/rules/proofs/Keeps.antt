@@ -1,5 +1,5 @@
 -- Steady lines stay sound and buffers last, from call to call.
-use Rattle.std.proofs.Common.{◌≡◌, ℕ, ◌+◌, ◌≤◌, Bool, true, false, cond, ◌&&◌, eqb, ltb, leb, List, [], ◌∷◌, ◌++◌, length, get_or, drop, Some, None, Ok, Err, Option, Result, sym, refl, ap, subst, arith, length-append, length-drop, length-take}
+use Rattle.std.proofs.Common.{◌≡◌, ℕ, ◌+◌, ◌≤◌, Bool, true, false, cond, ◌&&◌, eqb, ltb, leb, List, [], ◌∷◌, ◌++◌, length, get_or, drop, Some, None, Ok, Err, Option, Result, sym, refl, ap, subst, arith, length-append, length-drop}
 use Rattle.std.proofs.lemmas.Bool.{cond_both, ltb-false}
 use Rattle.fault.specs.declared.faults.Fault.{Fault}
 use Rattle.fault.specs.declared.faults.PacketFault.{PacketFault}
@@ -19,7 +19,6 @@ use Rattle.packet.specs.Decoding.{Answer, part, whole, decode}
 use Rattle.packet.proofs.Fronts.{decode_short}
 use Rattle.packet.proofs.Back.{length_encode}
 use Rattle.line.specs.Lines.{LineView, joined, cleared, fits}
-use Rattle.line.specs.Memory.{laid}
 use Rattle.message_log.specs.Meaning.{count, nth, added}
 use Rattle.message_log.specs.Calls.{fronted, takes, has}
 use Rattle.account.specs.Logins.{Asked}
@@ -40,7 +39,7 @@ use Rattle.rules.specs.Hub.{hub_gone, hub_letters, decided, admitted, hub_acts, 
 use Rattle.rules.specs.Seat.{seat_gone, seat_letters, is_apart, next_number, seat_keeps, seat_skips, seat_complete, seat_acts, seat_judges, seat_hears, seat_due, seat_requested, live_due, seat_posts, seat_sends}
 use Rattle.rules.specs.Calls.{done, asked, asking, login_of, connect, connected, publishes, busy, last_session, is_serving, is_live, tick, hub_timed, counted, waiting_limit, silence_limit}
 use Rattle.rules.specs.Rounds.{HubReceives, hub_deaf, hub_hears_bytes, SeatReceives, seat_deaf, seat_hears_bytes, Drains, ends, more, Rounds, Call, Deed, Step, short_buffer, connects, cuts, publishes as publishing, finishes, rolls, tells, says, leaves, hub_receives, seat_receives, hub_sends_one, seat_sends_one, ticks, rounds}
-use Rattle.rules.specs.Laws.{NoShorter, LinesStaySound, BuffersLast, FramesStayParts, FrameBuffersKeep}
+use Rattle.rules.specs.Laws.{LinesStaySound, BuffersLast, FramesStayParts, FrameBuffersKeep}
 use Rattle.rules.proofs.Cases.{Act, hub_acts_lem, seat_acts_lem}
 use Rattle.rules.proofs.Frames.{Filled, filled_same, filled_none, filled_trans, filled_laid, placed_part, given_short}
 

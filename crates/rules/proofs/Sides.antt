@@ -1,5 +1,5 @@
 -- What an end does on its own side it does in the pair.
-use Rattle.std.proofs.Common.{◌≡◌, ℕ, ◌+◌, Bool, true, false, cond, ◌&&◌, eqb, ltb, leb, List, [], ◌∷◌, ◌++◌, length, Some, None, Ok, Err, Option, Result, refl, ap, ◌∙◌}
+use Rattle.std.proofs.Common.{◌≡◌, ℕ, ◌+◌, Bool, true, false, cond, ◌&&◌, eqb, ltb, leb, List, [], ◌∷◌, ◌++◌, length, Some, None, Ok, Err, Option, Result, refl, ap}
 use Rattle.fault.specs.declared.faults.PacketFault.{PacketFault}
 use Rattle.fault.specs.declared.refusals.Refusal.{Refusal}
 use Rattle.fault.specs.declared.refusals.Refusal.TheVariants.{BadPacket, LogFull, LineFull, WrongPhase, MessageTooLong}
@@ -30,7 +30,7 @@ use Rattle.rules.specs.Changes.{grants, refuses, hub_to, hub_leaves, hub_writes,
 use Rattle.rules.specs.Frames.{judged}
 use Rattle.rules.specs.Hub.{hub_gone, hub_letters, admitted, decided, hub_acts, hub_judges, hub_hears, beat_after, first_number, owes, Due, due, none_due, sent_all, hub_due, Sending, hub_posts, is_shut, hub_sends}
 use Rattle.rules.specs.Seat.{seat_gone, is_apart, seat_letters, suits, next_number, seat_keeps, seat_skips, seat_complete, seat_acts, seat_judges, seat_hears, seat_requested, live_due, seat_due, seat_posts, seat_sends}
-use Rattle.rules.specs.Calls.{Done, done, is_serving, is_live, tell, say, leave, counted, hub_timed, seat_timed, waiting_limit, silence_limit}
+use Rattle.rules.specs.Calls.{done, is_serving, is_live, tell, say, leave, hub_timed, seat_timed, waiting_limit, silence_limit}
 use Rattle.rules.specs.Sides.{with_hub_side, with_seat_side, with_hub_core, with_seat_core, on_side, on_core}
 use Rattle.rules.proofs.Cases.{Act, hub_acts_lem, seat_acts_lem}
 

@@ -1,6 +1,6 @@
 -- The calls that take nothing from a line and are no send. Whether a buffer is too short (14) is judged in
 -- Rounds.antt, for all calls alike.
-use Rattle.std.specs.Prelude.{ℕ, ◌+◌, min, Bool, true, false, cond, List, [], ◌∷◌, ◌++◌, length, Some, None, Ok, Err, Option, Result, ◌==◌, nat_le, nat_lt}
+use Rattle.std.specs.Prelude.{ℕ, ◌+◌, min, Bool, true, false, cond, List, [], length, Some, None, Ok, Err, Option, Result, ◌==◌, nat_le, nat_lt}
 use Rattle.fault.specs.declared.refusals.Refusal.{Refusal}
 use Rattle.fault.specs.declared.refusals.Refusal.TheVariants.{MessageTooLong, LineFull, WrongPhase, SessionFinished, HubBusy, LastSession, NoSession, NothingToFetch}
 use Rattle.layout.specs.Limits.{message_limit}
@@ -17,8 +17,8 @@ use Rattle.rules.specs.declared.phases.SeatPhase.{SeatPhase}
 use Rattle.rules.specs.declared.phases.SeatPhase.TheVariants.{Apart, Asking, Live}
 use Rattle.rules.specs.declared.phases.How.{How}
 use Rattle.rules.specs.declared.phases.How.TheVariants.{Join, Anew, Fetch}
-use Rattle.rules.specs.State.{HubEnd, SeatEnd, Pair, Outcome}
-use Rattle.rules.specs.Changes.{with_hub, with_seat, with_log, grants, refuses, hub_to, hub_leaves, hub_writes, seat_to, seat_writes, wiped}
+use Rattle.rules.specs.State.{Pair, Outcome}
+use Rattle.rules.specs.Changes.{with_hub, with_seat, with_log, grants, refuses, hub_leaves, hub_writes, seat_to, seat_writes, wiped}
 use Rattle.rules.specs.Hub.{hub_gone}
 use Rattle.rules.specs.Seat.{next_number, is_apart}
 

@@ -1,5 +1,5 @@
 -- Changes of a pair that several rules share.
-use Rattle.std.specs.Prelude.{ℕ, ◌+◌, min, Bool, true, false, cond, List, [], ◌∷◌, ◌++◌, length, Some, None, Ok, Err, Option}
+use Rattle.std.specs.Prelude.{ℕ, Bool, true, false, cond, List, [], length, Some, None, Ok, Err, Option}
 use Rattle.fault.specs.declared.refusals.Refusal.{Refusal}
 use Rattle.layout.specs.declared.statuses.Status.{Status}
 use Rattle.packet.specs.Values.{Value, encode}
@@ -11,8 +11,7 @@ use Rattle.account.specs.declared.rows.Row.{Row}
 use Rattle.account.specs.Rows.{marking}
 use Rattle.rules.specs.declared.phases.HubPhase.{HubPhase}
 use Rattle.rules.specs.declared.phases.SeatPhase.{SeatPhase}
-use Rattle.rules.specs.declared.phases.SeatPhase.TheVariants.{Apart}
-use Rattle.rules.specs.State.{Running, HubEnd, SeatEnd, Account, Buffers, Pair, Outcome}
+use Rattle.rules.specs.State.{Running, HubEnd, SeatEnd, Buffers, Pair, Outcome}
 
 -- one part of a pair changes
 abbrev pub with_running : Pair → Running → Pair

@@ -292,10 +292,10 @@ abbrev pub SeatHeard : SeatHearing → Type 0
 SeatHeard x = (seat_hears x.bytes line (pair Shut x.phase (log 7 (first ∷ [])))).answer ≡ x.answer
 
 pub record ExamplesHold : Type 0 where
-  pub stories : All Told stories
-  pub waits : All Waited waits
-  pub counts : All Counted counts
-  pub asks : All Asked asks
-  pub hub : All HubHeard hub_hearings
-  pub seat : All SeatHeard seat_hearings
+  pub stories : AllByRecursion Told stories
+  pub waits : AllByRecursion Waited waits
+  pub counts : AllByRecursion Counted counts
+  pub asks : AllByRecursion Asked asks
+  pub hub : AllByRecursion HubHeard hub_hearings
+  pub seat : AllByRecursion SeatHeard seat_hearings
   pub connect : Cleared

@@ -14,7 +14,7 @@ use Rattle.layout.specs.declared.goodbyes.GoodByeReason.TheVariants as G
 use Rattle.packet.specs.Values.{Value, login_request, login_response, sequenced, unsequenced, synchronization_complete, retransmission_request, logout_request, good_bye, end_of_session, hub_heartbeat, seat_heartbeat, test, letter, encode}
 use Rattle.packet.specs.Decoding.{Answer, part, whole}
 use Rattle.line.specs.Lines.{LineView, fits}
-use Rattle.message_log.specs.Meaning.{Meaning, count, nth}
+use Rattle.message_log.specs.Meaning.{count, nth}
 use Rattle.message_log.specs.Calls.{has}
 use Rattle.account.specs.Rows.{found}
 use Rattle.account.specs.Logins.{Asked, status_for}

@@ -1,5 +1,5 @@
 -- Receives with what is free in them, rounds, and the calls together.
-use Rattle.std.specs.Prelude.{◌≡◌, ℕ, ◌+◌, Bool, true, false, cond, ◌&&◌, ◌||◌, List, [], ◌∷◌, ◌++◌, length, Some, None, Ok, Err, Option, Result, nat_le, nat_lt}
+use Rattle.std.specs.Prelude.{◌≡◌, ℕ, ◌+◌, Bool, true, false, ◌&&◌, ◌||◌, List, length, Some, None, Ok, Err, Option, Result, nat_le, nat_lt}
 use Rattle.fault.specs.declared.faults.Fault.{Fault}
 use Rattle.fault.specs.declared.faults.Fault.TheVariants as F
 use Rattle.fault.specs.declared.faults.LogFault.TheVariants.{Full}
@@ -11,12 +11,11 @@ use Rattle.rules.specs.declared.phases.How.{How}
 use Rattle.rules.specs.declared.answers.Received.{Received}
 use Rattle.rules.specs.declared.answers.Received.TheVariants.{Nothing, Part, Acted, Message}
 use Rattle.rules.specs.declared.answers.Sent.{Sent}
-use Rattle.rules.specs.declared.answers.Heard.{Heard}
 use Rattle.rules.specs.declared.answers.Report.{Report}
 use Rattle.rules.specs.State.{Pair, Outcome}
 use Rattle.rules.specs.Changes.{refuses}
 use Rattle.rules.specs.Frames.{lack, given, left, Free}
-use Rattle.rules.specs.Hub.{listens, hub_hears, Sending, hub_sends}
+use Rattle.rules.specs.Hub.{listens, hub_hears, hub_sends}
 use Rattle.rules.specs.Seat.{is_apart, seat_hears, seat_sends}
 use Rattle.rules.specs.Calls.{Done, done, connect, cut, publish, finish, roll, tell, say, leave, tick}
 
