@@ -1,12 +1,12 @@
 -- What an end says of its frame, when what comes to it is a list of whole packets.
-use Rattle.std.proofs.Common.{◌≡◌, ℕ, ◌<◌, ◌≤◌, Bool, true, false, List, [], ◌∷◌, ◌++◌, length, get_or, Ok, Err, Result, sym, refl, ap, ◌∙◌, arith}
+use Rattle.std.proofs.Common.{◌≡◌, ℕ, ◌<◌, ◌≤◌, Bool, true, false, List, ◌∷◌, ◌++◌, length, get_or, Ok, Err, Result, sym, refl, ap, ◌∙◌}
 use Rattle.std.specs.List.{flat_map, AllByRecursion as All}
 use Rattle.fault.specs.declared.faults.PacketFault.{PacketFault}
 use Rattle.fault.specs.declared.faults.PacketFault.TheVariants.{OutOfPlace}
 use Rattle.layout.specs.declared.letters.Letter.{Letter}
 use Rattle.layout.specs.Letters.{letter_byte}
 use Rattle.packet.specs.Values.{Value, Valid, encode, letter}
-use Rattle.packet.specs.Decoding.{Answer, part, whole, decode}
+use Rattle.packet.specs.Decoding.{Answer, part, whole}
 use Rattle.rules.specs.Frames.{lack, among, placed, judged}
 use Rattle.promises.proofs.Fronts.{clash}
 use Rattle.promises.proofs.Frames.{Short, Arrived, not_yet, come, arrives}

@@ -1,8 +1,8 @@
 -- What set-up grants is a pair of which the promises speak.
-use Rattle.std.proofs.Common.{◌≡◌, ℕ, ◌<◌, ◌≤◌, Bool, true, false, cond, ◌&&◌, ◌||◌, eqb, ◌⊎◌, List, [], ◌∷◌, ◌++◌, length, get_or, Ok, Err, Result, sym, refl, ap, ◌∙◌, subst, inl, inr, ⊎_elim, arith}
+use Rattle.std.proofs.Common.{◌≡◌, ℕ, ◌<◌, Bool, true, false, cond, ◌&&◌, ◌||◌, eqb, ◌⊎◌, List, [], ◌∷◌, length, Ok, Err, Result, sym, refl, ap, ◌∙◌, subst, inl, inr, arith}
 use Rattle.std.specs.Str.{bytes_eq}
 use Rattle.std.proofs.lemmas.List.{nil_from_length}
-use Rattle.std.proofs.lemmas.Bool.{cond_both, cases_Bool, eqb-true, eqb-false, and_parts}
+use Rattle.std.proofs.lemmas.Bool.{cond_both, eqb-true, eqb-false, and_parts}
 use Rattle.std.proofs.lemmas.Slice.Eq.{bytes_eq-Decides}
 use Rattle.fault.specs.declared.refusals.Refusal.{Refusal}
 use Rattle.fault.specs.declared.refusals.Refusal.TheVariants.{ShortBuffer, SizeOutOfRange, BadAccountField}
@@ -12,7 +12,7 @@ use Rattle.account.specs.Fields.{good, good_fields, padded_fields, account_of}
 use Rattle.account.proofs.Padding.{judges_fields}
 use Rattle.rules.specs.State.{Account, Pair}
 use Rattle.rules.specs.Rounds.{too_short}
-use Rattle.rules.specs.SetUp.{Parts, first_session, started, first_of, follows, made, set_up}
+use Rattle.rules.specs.SetUp.{first_session, started, first_of, follows, made}
 use Rattle.rules.specs.Sides.{no_hub, no_seat}
 use Rattle.promises.specs.Book.{Message}
 use Rattle.promises.specs.Runs.{Begins, SetUp}

@@ -1,13 +1,13 @@
 -- What the rules may lead to, case by case, for arguments that go by cases: refusals and departures are one case each.
-use Rattle.std.proofs.Common.{◌≡◌, ℕ, ◌+◌, ◌-◌, ◌<◌, ◌≤◌, min, Bool, true, false, cond, ◌&&◌, ◌||◌, eqb, ltb, leb, ◌⊎◌, List, [], ◌∷◌, ◌++◌, length, take, drop, Some, None, Ok, Err, Option, Result, sym, refl, ap, ◌∙◌, subst, inl, inr, ⊎_elim, arith, length-take}
+use Rattle.std.proofs.Common.{◌≡◌, ℕ, ◌+◌, ◌<◌, ◌≤◌, min, Bool, true, false, cond, ◌&&◌, ◌||◌, eqb, ltb, leb, ◌⊎◌, List, [], ◌∷◌, ◌++◌, length, Some, None, Ok, Err, Option, Result, sym, refl, ap, ◌∙◌, subst, inl, inr, ⊎_elim, arith, length-take}
 use Rattle.std.specs.List.{AllByRecursion as All}
-use Rattle.std.proofs.lemmas.Bool.{cond_both, cases_Bool, eqb-true, eqb-false, ltb-true, ltb-false, leb-true, leb-false, cases_lt, or_cases, or_parts, and_parts}
+use Rattle.std.proofs.lemmas.Bool.{cond_both, cases_Bool, eqb-true, ltb-true, ltb-false, leb-true, leb-false, or_cases, and_parts}
 use Rattle.std.proofs.lemmas.List.{take-append-drop}
 use Rattle.fault.specs.declared.faults.Field.TheVariants as Field
 use Rattle.fault.specs.declared.faults.PacketFault.{PacketFault}
 use Rattle.fault.specs.declared.faults.PacketFault.TheVariants.{OutOfPlace, WrongContent}
 use Rattle.fault.specs.declared.refusals.Refusal.{Refusal}
-use Rattle.fault.specs.declared.refusals.Refusal.TheVariants.{MessageTooLong, LogFull, LineFull, WrongPhase, SessionFinished, HubBusy, LastSession, NoSession, NothingToFetch, BadPacket}
+use Rattle.fault.specs.declared.refusals.Refusal.TheVariants.{MessageTooLong, LineFull, WrongPhase, SessionFinished, HubBusy, LastSession, NoSession, NothingToFetch}
 use Rattle.layout.specs.Limits.{message_limit}
 use Rattle.layout.specs.declared.letters.Letter.{Letter}
 use Rattle.layout.specs.declared.letters.Letter.TheVariants as L
@@ -19,11 +19,11 @@ use Rattle.layout.specs.declared.logouts.LogoutReason.TheVariants as X
 use Rattle.packet.specs.Values.{Value, login_request, login_response, sequenced, unsequenced, synchronization_complete, retransmission_request, logout_request, good_bye, end_of_session, hub_heartbeat, seat_heartbeat, test, letter, encode}
 use Rattle.packet.specs.Decoding.{Answer, part, whole}
 use Rattle.line.specs.Lines.{LineView, handed, fits}
-use Rattle.message_log.specs.Meaning.{Meaning, count, nth, begun, added}
+use Rattle.message_log.specs.Meaning.{count, nth, begun, added}
 use Rattle.message_log.specs.Calls.{has, takes}
 use Rattle.account.specs.declared.rows.Row.{Row}
 use Rattle.account.specs.Rows.{found}
-use Rattle.account.specs.Logins.{Asked, Check, checks, of_row, first_failing, status_for}
+use Rattle.account.specs.Logins.{Asked, Check, checks, first_failing, status_for}
 use Rattle.rules.specs.declared.phases.HubPhase.{HubPhase}
 use Rattle.rules.specs.declared.phases.HubPhase.TheVariants.{Shut, Waiting, Answering, Rejecting, Serving, Filling}
 use Rattle.rules.specs.declared.phases.SeatPhase.{SeatPhase}
@@ -34,12 +34,12 @@ use Rattle.rules.specs.declared.answers.Received.{Received}
 use Rattle.rules.specs.declared.answers.Received.TheVariants.{Nothing, Part, Acted, Message}
 use Rattle.rules.specs.declared.answers.Sent.{Sent}
 use Rattle.rules.specs.declared.answers.Sent.TheVariants.{Idle, Wrote}
-use Rattle.rules.specs.State.{Running, HubEnd, SeatEnd, Account, Pair, Outcome}
-use Rattle.rules.specs.Changes.{with_up, with_down, with_held, with_log, grants, refuses, hub_to, hub_leaves, hub_admits, hub_writes, hub_took, seat_with, seat_to, seat_writes, seat_tells, seat_took}
+use Rattle.rules.specs.State.{Pair, Outcome}
+use Rattle.rules.specs.Changes.{with_up, with_down, with_held, with_log, grants, refuses, hub_to, hub_leaves, hub_admits, hub_writes, hub_took, seat_with, seat_to, seat_writes, seat_took}
 use Rattle.rules.specs.Frames.{lack, given, left, Free, judged}
-use Rattle.rules.specs.Hub.{hub_gone, hub_bad, listens, hub_letters, decided, logs_in, admitted, refills, beat_while_filling, Due, due, none_due, hub_acts, hub_judges, hub_hears, message_place, beat_after, first_number, owes, sent_all, hub_due, Sending, hub_posts, is_shut, hub_sends}
-use Rattle.rules.specs.Seat.{seat_gone, seat_bad, is_apart, seat_letters, suits, in_session, next_number, seat_accepted, seat_rejected, seat_answered, seat_keeps, seat_skips, seat_message, seat_complete, seat_acts, seat_judges, seat_hears, seat_requested, live_due, seat_due, seat_posts, seat_sends}
-use Rattle.rules.specs.Calls.{Done, done, login_of, connected, fetching, connect, publishes, publish, finish, busy, last_session, roll, is_serving, is_live, tell, say, leave, hub_timed, seat_timed, waiting_limit, silence_limit}
+use Rattle.rules.specs.Hub.{hub_gone, hub_bad, listens, hub_letters, decided, logs_in, admitted, refills, Due, due, none_due, hub_acts, hub_judges, hub_hears, message_place, beat_after, first_number, owes, sent_all, hub_due, Sending, hub_posts, is_shut, hub_sends}
+use Rattle.rules.specs.Seat.{seat_gone, seat_bad, is_apart, seat_letters, suits, in_session, next_number, seat_rejected, seat_answered, seat_keeps, seat_skips, seat_message, seat_complete, seat_acts, seat_judges, seat_hears, seat_requested, live_due, seat_due, seat_posts, seat_sends}
+use Rattle.rules.specs.Calls.{Done, done, login_of, connected, connect, publishes, publish, finish, busy, last_session, roll, is_serving, is_live, tell, say, leave, hub_timed, seat_timed, waiting_limit, silence_limit}
 use Rattle.rules.specs.Rounds.{HubReceives, hub_deaf, hub_hears_bytes, SeatReceives, seat_deaf, seat_hears_bytes}
 use Rattle.promises.proofs.Fronts.{clash}
 

@@ -1,33 +1,26 @@
 -- What rounds after a connect bring about: each brings one message further, and the seat's log is then the hub's.
-use Rattle.std.proofs.Common.{◌≡◌, ℕ, suc, ◌+◌, ◌-◌, ◌^◌, ◌<◌, ◌≤◌, min, Bool, true, false, cond, eqb, ltb, leb, ◌⊎◌, List, [], ◌∷◌, ◌++◌, length, get_or, drop, Some, None, Ok, Err, sum_by, Option, Result, sym, refl, ap, ◌∙◌, subst, inl, inr, ⊎_elim, arith, length-append}
-use Rattle.std.specs.List.{slice_get, flat_map, AllByRecursion as All}
+use Rattle.std.proofs.Common.{◌≡◌, ℕ, ◌+◌, ◌-◌, ◌<◌, ◌≤◌, Bool, true, false, cond, eqb, ltb, ◌⊎◌, List, [], ◌∷◌, ◌++◌, length, get_or, drop, Some, None, Ok, Err, Option, sym, refl, ap, ◌∙◌, subst, inl, inr, ⊎_elim, arith, length-append}
+use Rattle.std.specs.List.{slice_get, flat_map}
 use Rattle.std.proofs.lemmas.List.{append-nil, length_push}
 use Rattle.std.proofs.lemmas.List.Sums.{sum_by_push, sum_by-drop_more}
-use Rattle.std.proofs.lemmas.Option.{slice_get-get_or}
 use Rattle.std.proofs.lemmas.Bool.{cond_both, eqb-true, eq-eqb, ne_eqb, cond-true, cond-false, cases_lt, lt-ltb, le-ltb, not_from_false, and_from, le-leb}
 use Rattle.fault.specs.declared.faults.Fault.{Fault}
-use Rattle.fault.specs.declared.faults.PacketFault.{PacketFault}
-use Rattle.fault.specs.declared.refusals.Refusal.{Refusal}
 use Rattle.fault.specs.declared.refusals.Refusal.TheVariants.{WrongPhase}
 use Rattle.layout.specs.Limits.{message_limit, packet_limit}
-use Rattle.layout.specs.declared.letters.Letter.{Letter}
 use Rattle.layout.specs.declared.letters.Letter.TheVariants as L
 use Rattle.layout.specs.Letters.{letter_byte}
-use Rattle.layout.specs.declared.statuses.Status.{Status}
 use Rattle.layout.specs.declared.statuses.Status.TheVariants.{Accepted}
 use Rattle.packet.specs.Values.{Value, Valid, login_request, login_response, sequenced, encode, letter}
-use Rattle.packet.specs.Decoding.{part, whole}
 use Rattle.line.specs.Lines.{LineView, handed, fits}
 use Rattle.rules.specs.State as Line
 use Rattle.message_log.specs.Meaning.{Meaning, count, taken, room, begun, size_limit}
 use Rattle.message_log.specs.Meaning as Log
 use Rattle.message_log.specs.Calls.{has, takes}
-use Rattle.account.specs.declared.rows.Row.{Row}
 use Rattle.account.specs.Rows.{found}
 use Rattle.account.specs.Logins.{status_for, spoken_version}
 use Rattle.account.specs.Logins as account
 use Rattle.rules.specs.declared.phases.HubPhase.{HubPhase}
-use Rattle.rules.specs.declared.phases.HubPhase.TheVariants.{Shut, Waiting, Answering, Rejecting, Serving, Filling}
+use Rattle.rules.specs.declared.phases.HubPhase.TheVariants.{Waiting, Answering, Serving}
 use Rattle.rules.specs.declared.phases.SeatPhase.{SeatPhase}
 use Rattle.rules.specs.declared.phases.SeatPhase.TheVariants.{Apart, Asking, Live}
 use Rattle.rules.specs.declared.phases.How.{How}
@@ -35,23 +28,23 @@ use Rattle.rules.specs.declared.answers.Received.{Received}
 use Rattle.rules.specs.declared.answers.Report.{Report}
 use Rattle.rules.specs.State.{SeatEnd, Pair, Outcome}
 use Rattle.rules.specs.Changes.{hub_to, hub_writes, hub_took, seat_took}
-use Rattle.rules.specs.Frames.{lack, among, judged}
+use Rattle.rules.specs.Frames.{lack, among}
 use Rattle.rules.specs.Hub.{listens, hub_letters, admitted, decided, logs_in, hub_acts, first_number, owes, Due, due, hub_due, Sending, hub_posts, is_shut, hub_sends, beat_after}
 use Rattle.rules.specs.Seat.{is_apart, seat_letters, suits, in_session, next_number, seat_message, seat_keeps, seat_acts, live_due, seat_due, seat_posts, seat_sends}
-use Rattle.rules.specs.Calls.{connected, fetch_end, asked, asked_number}
-use Rattle.rules.specs.Rounds.{HubReceives, SeatReceives, going, Going, over, onward, Drains, ends, more, Rounds, Call, Round, Answer, Went, Deed, Step, short_buffer, rounds}
+use Rattle.rules.specs.Calls.{connected, asked}
+use Rattle.rules.specs.Rounds.{HubReceives, SeatReceives, going, over, onward, Drains, ends, more, Rounds, Round, Went, Deed, Step, short_buffer, rounds}
 use Rattle.promises.specs.Book.{Message, Book}
-use Rattle.promises.specs.Runs.{Begins, Note, World, GrantedRounds, no_round, round, History}
-use Rattle.promises.specs.Promises.{Able, rounds_needed, Level, CatchesUp}
+use Rattle.promises.specs.Runs.{Begins, Note, GrantedRounds, no_round, round}
+use Rattle.promises.specs.Promises.{Able, rounds_needed, Level}
 use Rattle.promises.proofs.Fronts.{clash, begins_length, begins_all, begins_next}
 use Rattle.promises.proofs.Frames.{Short, part_lacks}
 use Rattle.promises.proofs.Packets.{sesm, encode_fits, sequenced_valid, response_valid}
-use Rattle.promises.proofs.Arrivals.{Come, still_part, now_whole, no_fault}
+use Rattle.promises.proofs.Arrivals.{still_part, now_whole, no_fault}
 use Rattle.promises.proofs.Cases.{passed, asks, Took, got_within, HubHeard, hub_refused, hub_none, hub_part, hub_fault, hub_whole, hub_heard_lem, SeatHeard, seat_refused, seat_none, seat_part, seat_fault, seat_whole, seat_heard_lem}
 use Rattle.promises.proofs.Sound.{Sound, to_waiting}
-use Rattle.promises.proofs.Keeps.{not_apart, read_message, history_sound}
+use Rattle.promises.proofs.Keeps.{read_message}
 use Rattle.promises.proofs.Truth.{view, its_login, Asked, joins, Truth, asked_fits, asked_some}
-use Rattle.promises.proofs.Tells.{login_valid, new_joined, new_tru, connect_asked, in_session_is, history_tru}
+use Rattle.promises.proofs.Tells.{login_valid, new_joined, new_tru, connect_asked, in_session_is}
 
 -- what the receives of a seat leave
 pub record Core : Type 0 where

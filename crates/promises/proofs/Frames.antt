@@ -1,8 +1,8 @@
 -- Framing: a frame and the bytes that wait behind it are a list of whole packets, whatever breaks and takes do.
 -- The argument takes the packet family as given: how values are written and read, and what a frame lacks.
-use Rattle.std.proofs.Common.{◌≡◌, ℕ, ◌+◌, ◌-◌, ◌<◌, ◌≤◌, List, [], ◌∷◌, ◌++◌, length, take, drop, sym, refl, ap, ◌∙◌, ⊎_elim, arith, length-append}
+use Rattle.std.proofs.Common.{◌≡◌, ℕ, ◌+◌, ◌<◌, ◌≤◌, List, [], ◌∷◌, ◌++◌, length, take, drop, sym, refl, ap, ◌∙◌, ⊎_elim, arith, length-append}
 use Rattle.std.specs.List.{flat_map, AllByRecursion as All}
-use Rattle.std.proofs.lemmas.List.{append-nil, append_assoc, flat_map_more, take_at, drop_at, take-append-le}
+use Rattle.std.proofs.lemmas.List.{append_assoc, flat_map_more, take_at, drop_at, take-append-le}
 use Rattle.std.proofs.lemmas.Bool.{cases_lt}
 
 -- A family of packets: what is said of bytes is that they are a part, or a whole packet, or something else.

@@ -1,5 +1,5 @@
 -- What each call keeps of the invariant of the first promise, and so what each run does.
-use Rattle.std.proofs.Common.{◌≡◌, ℕ, ◌+◌, ◌-◌, ◌<◌, ◌≤◌, min, Bool, true, false, cond, eqb, leb, ◌⊎◌, List, [], ◌∷◌, ◌++◌, length, get_or, Some, None, Ok, Err, Option, sym, refl, ap, ◌∙◌, subst, inl, inr, ⊎_elim, arith}
+use Rattle.std.proofs.Common.{◌≡◌, ℕ, ◌+◌, ◌-◌, ◌<◌, ◌≤◌, min, true, false, eqb, leb, ◌⊎◌, List, [], ◌∷◌, ◌++◌, length, Some, Ok, Err, Option, sym, refl, ap, ◌∙◌, subst, inl, inr, ⊎_elim, arith}
 use Rattle.std.specs.List.{slice_get, flat_map, AllByRecursion as All}
 use Rattle.std.proofs.lemmas.Option.{slice_get-get_or}
 use Rattle.std.proofs.lemmas.Bool.{cond_both, eqb-true, eqb-false, eq-eqb, ne_eqb, cond-true, cond-false, cases_Bool, cases_eq, cases_lt, and_parts, leb-true}
@@ -21,25 +21,24 @@ use Rattle.message_log.specs.Calls.{has}
 use Rattle.rules.specs.declared.phases.HubPhase.{HubPhase}
 use Rattle.rules.specs.declared.phases.HubPhase.TheVariants.{Shut, Waiting, Answering, Rejecting, Serving, Filling}
 use Rattle.rules.specs.declared.phases.SeatPhase.{SeatPhase}
-use Rattle.rules.specs.declared.phases.SeatPhase.TheVariants.{Apart, Asking, Live}
-use Rattle.rules.specs.declared.phases.How.{How}
+use Rattle.rules.specs.declared.phases.SeatPhase.TheVariants.{Apart, Live}
 use Rattle.rules.specs.declared.answers.Received.{Received}
 use Rattle.rules.specs.declared.answers.Sent.{Sent}
 use Rattle.rules.specs.declared.answers.Report.{Report}
 use Rattle.rules.specs.State.{Running, HubEnd, Pair, Outcome}
-use Rattle.rules.specs.Changes.{hub_leaves, hub_tells, hub_writes, hub_took, seat_took}
+use Rattle.rules.specs.Changes.{hub_leaves, hub_writes, hub_took, seat_took}
 use Rattle.rules.specs.Frames.{lack, judged}
 use Rattle.rules.specs.Hub.{hub_gone, first_number, owes, Sending, hub_sends}
-use Rattle.rules.specs.Seat.{in_session, next_number, is_apart, seat_letters, seat_sends}
-use Rattle.rules.specs.Calls.{Done, cut, counted, hub_timed, tick, is_serving, connected}
+use Rattle.rules.specs.Seat.{next_number, is_apart, seat_letters, seat_sends}
+use Rattle.rules.specs.Calls.{Done, counted, hub_timed, tick, is_serving}
 use Rattle.rules.specs.Rounds.{HubReceives, SeatReceives, Drains, ends, more, Rounds, Call, Connect, Cut, Publish, Finish, Roll, Tell, Say, Leave, HubReceive, SeatReceive, HubSend, SeatSend, Tick, Round, Answer, Did, Deed, Step, short_buffer, connects, cuts, publishes, finishes, rolls, tells, says, leaves, hub_receives, seat_receives, hub_sends_one, seat_sends_one, ticks, rounds, refusal}
-use Rattle.promises.specs.Book.{Message, Book, opened, added, turned, is_granted, noted}
-use Rattle.promises.specs.Runs.{Begins, World, stepped, Run, begins, goes_on, SetUp, at_first, History}
+use Rattle.promises.specs.Book.{Message, Book, opened, added, turned, noted}
+use Rattle.promises.specs.Runs.{Begins, World, Run, begins, goes_on, SetUp, History}
 use Rattle.promises.specs.Promises.{NeverWrong, NeverShorter}
-use Rattle.promises.proofs.Fronts.{clash, begins_refl, begins_push, begins_next}
-use Rattle.promises.proofs.Frames.{Short, short_nil}
+use Rattle.promises.proofs.Fronts.{clash, begins_push, begins_next}
+use Rattle.promises.proofs.Frames.{short_nil}
 use Rattle.promises.proofs.Packets.{sesm, sequenced_valid, unsequenced_valid, response_valid}
-use Rattle.promises.proofs.Arrivals.{Come, still_part, now_whole}
+use Rattle.promises.proofs.Arrivals.{still_part, now_whole}
 use Rattle.promises.proofs.Cases.{Tried, refused, granted, connect_tried, publish_tried, finish_tried, roll_tried, tell_tried, say_tried, leave_tried, Took, got_within, HubActed, hub_bad_lem, hub_admits_lem, hub_rejects, hub_refills, hub_leaves_lem, hub_stays, hub_acted, HubHeard, hub_refused, hub_none, hub_part, hub_fault, hub_whole, hub_heard_lem, Left, seat_gone_lem, SeatActed, seat_leaves, seat_accepts, seat_keeps_lem, seat_passes, seat_skips_lem, seat_completes, seat_told, seat_beaten, seat_tested, seat_acted, SeatHeard, seat_refused, seat_none, seat_part, seat_fault, seat_whole, seat_heard_lem, HubOwes, owes_answer, owes_rejection, owes_message, owes_complete, owes_end, owes_beat, owes_fill, HubSent, sent_refused, sent_none, sent_all_lem, sent_packet, hub_sent_lem, SeatSent, seat_sent_refused, seat_sent_none, seat_sent_request, seat_sent_beat, seat_sent, HubTimed, hub_lasts, hub_lost, hub_late, hub_timed_lem, SeatTimed, seat_lasts, seat_lost, seat_timed_lem}
 use Rattle.promises.proofs.Sound.{bound, early, HonestResponse, Honest, Rejected, Flying, Flight, away, flies, Inv, Sound, Grows, grows_refl, grows_trans, refly, to_phase, to_shut, to_apart, to_waiting, writes, relog, rolls_on}
 use Rattle.promises.proofs.Sound as inv

@@ -1,9 +1,9 @@
 -- The packets of SesM as a family, and which of them are valid.
-use Rattle.std.proofs.Common.{◌≡◌, ℕ, ◌+◌, ◌-◌, ◌^◌, ◌<◌, ◌≤◌, min, true, false, ltb, List, [], ◌∷◌, ◌++◌, length, get_or, take, Ok, Err, Result, sym, refl, ap, ◌∙◌, ⊎_elim, arith, length-append}
+use Rattle.std.proofs.Common.{◌≡◌, ℕ, ◌+◌, ◌-◌, ◌^◌, ◌<◌, ◌≤◌, min, true, List, [], length, get_or, take, Ok, Result, sym, refl, ap, ◌∙◌, ⊎_elim, arith, length-append}
 use Rattle.std.proofs.lemmas.List.{append-nil, get_or-take, length-take-le}
 use Rattle.std.proofs.lemmas.Bool.{and_from, le-leb, cases_lt, lt-ltb, le-ltb, cond-true, cond-false}
 use Rattle.fault.specs.declared.faults.PacketFault.{PacketFault}
-use Rattle.layout.specs.Limits.{message_limit, length_limit, packet_limit}
+use Rattle.layout.specs.Limits.{message_limit, packet_limit}
 use Rattle.layout.specs.Letters.{shortest, longest, allowed}
 use Rattle.layout.specs.declared.letters.Letter.{Letter}
 use Rattle.layout.specs.declared.letters.Letter.TheVariants as L

@@ -1,8 +1,8 @@
 -- What each call keeps of the third promise, and so what each run does.
-use Rattle.std.proofs.Common.{◌≡◌, ℕ, ◌+◌, ◌-◌, ◌^◌, ◌<◌, ◌≤◌, min, Bool, true, false, cond, ◌&&◌, ◌||◌, eqb, leb, ◌⊎◌, List, [], ◌∷◌, ◌++◌, length, Some, None, Ok, Err, Option, sym, refl, ap, ◌∙◌, subst, inl, inr, ⊎_elim, arith}
+use Rattle.std.proofs.Common.{◌≡◌, ℕ, ◌+◌, ◌-◌, ◌^◌, ◌<◌, ◌≤◌, min, Bool, true, false, ◌||◌, eqb, leb, ◌⊎◌, List, [], ◌∷◌, ◌++◌, length, Some, None, Ok, Err, Option, sym, refl, ap, ◌∙◌, subst, inl, inr, ⊎_elim, arith}
 use Rattle.std.specs.List.{flat_map, AllByRecursion as All}
 use Rattle.std.proofs.lemmas.List.{append-nil, length_push}
-use Rattle.std.proofs.lemmas.Bool.{cond_both, eqb-true, eq-eqb, ne_eqb, cond-true, cond-false, cases_eq, cases_lt, or_cases, and_left, and_parts, and_from, le-leb}
+use Rattle.std.proofs.lemmas.Bool.{cond_both, eqb-true, eq-eqb, ne_eqb, cond-true, cond-false, cases_eq, cases_lt, or_cases, and_left, and_from, le-leb}
 use Rattle.fault.specs.declared.faults.Fault.{Fault}
 use Rattle.fault.specs.declared.refusals.Refusal.{Refusal}
 use Rattle.fault.specs.declared.refusals.Refusal.TheVariants.{ShortBuffer}
@@ -12,7 +12,7 @@ use Rattle.layout.specs.declared.statuses.Status.TheVariants.{Accepted, UnknownU
 use Rattle.layout.specs.declared.goodbyes.GoodByeReason.{GoodByeReason}
 use Rattle.layout.specs.declared.goodbyes.GoodByeReason.TheVariants as G
 use Rattle.layout.specs.declared.logouts.LogoutReason.TheVariants as X
-use Rattle.packet.specs.Values.{Value, Valid, login_request, login_response, sequenced, unsequenced, synchronization_complete, retransmission_request, logout_request, good_bye, end_of_session, hub_heartbeat, seat_heartbeat, test, encode}
+use Rattle.packet.specs.Values.{Value, Valid, login_request, login_response, sequenced, unsequenced, synchronization_complete, logout_request, good_bye, end_of_session, hub_heartbeat, test, encode}
 use Rattle.packet.specs.Decoding.{part, whole}
 use Rattle.line.specs.Lines.{LineView, fits}
 use Rattle.message_log.specs.Meaning.{Meaning, count, room, begun, size_limit}
@@ -34,20 +34,20 @@ use Rattle.rules.specs.Changes.{hub_leaves, hub_writes, hub_took, seat_took, sea
 use Rattle.rules.specs.Frames.{lack, judged}
 use Rattle.rules.specs.Hub.{hub_gone, hub_letters, first_number, owes, Sending, hub_sends}
 use Rattle.rules.specs.Seat.{seat_gone, in_session, next_number, is_apart, seat_letters, seat_sends}
-use Rattle.rules.specs.Calls.{Done, cut, counted, hub_timed, tick, busy, is_serving, is_live, connected, fetch_end, asked_session}
+use Rattle.rules.specs.Calls.{Done, cut, counted, hub_timed, tick, busy, is_serving, is_live, connected, fetch_end}
 use Rattle.rules.specs.Rounds.{HubReceives, SeatReceives, Drains, ends, more, Rounds, Call, Connect, Cut, Publish, Finish, Roll, Tell, Say, Leave, HubReceive, SeatReceive, HubSend, SeatSend, Tick, Round, Answer, Did, Deed, Step, short_buffer, connects, cuts, publishes, finishes, rolls, tells, says, leaves, hub_receives, seat_receives, hub_sends_one, seat_sends_one, ticks, rounds, refusal}
-use Rattle.promises.specs.Book.{Message, Book, opened, added, turned, is_granted, noted}
-use Rattle.promises.specs.Runs.{Begins, Note, as_of, accepts, tells_all, or_else, written, renoted, World, stepped, Run, begins, goes_on, SetUp, at_first, History}
+use Rattle.promises.specs.Book.{Message, Book, opened, added, turned, noted}
+use Rattle.promises.specs.Runs.{Begins, Note, accepts, written, renoted, World, Run, begins, goes_on, SetUp, History}
 use Rattle.promises.specs.Promises.{Holds, InStepIsTrue}
 use Rattle.promises.proofs.Fronts.{clash, begins_push, begins_trans, begins_length, begins_shorter}
 use Rattle.promises.proofs.Frames.{Short, short_nil}
 use Rattle.promises.proofs.Packets.{sesm, unsequenced_valid, response_valid}
 use Rattle.promises.proofs.Packets as packets
-use Rattle.promises.proofs.Arrivals.{Come, still_part, now_whole}
-use Rattle.promises.proofs.Cases.{Tried, refused, granted, connect_tried, publish_tried, finish_tried, roll_tried, tell_tried, say_tried, leave_tried, passed, asks, NoLogin, Took, got_within, HubActed, hub_bad_lem, hub_admits_lem, hub_rejects, hub_refills, hub_leaves_lem, hub_stays, hub_acted, HubHeard, hub_refused, hub_none, hub_part, hub_fault, hub_whole, hub_heard_lem, Left, seat_gone_lem, SeatActed, seat_leaves, seat_accepts, seat_keeps_lem, seat_passes, seat_skips_lem, seat_completes, seat_told, seat_beaten, seat_tested, seat_acted, SeatHeard, seat_refused, seat_none, seat_part, seat_fault, seat_whole, seat_heard_lem, HubOwes, owes_answer, owes_rejection, owes_message, owes_complete, owes_end, owes_beat, owes_fill, HubSent, sent_refused, sent_none, sent_all_lem, sent_packet, hub_sent_lem, SeatSent, seat_sent_refused, seat_sent_none, seat_sent_request, seat_sent_beat, seat_sent, HubTimed, hub_lasts, hub_lost, hub_late, hub_timed_lem, SeatTimed, seat_lasts, seat_lost, seat_timed_lem}
-use Rattle.promises.proofs.Sound.{Inv, Sound, list_grows}
-use Rattle.promises.proofs.Keeps.{Kept, has_bounds, read_valid, rejecting_keeps, not_apart, hub_receives_keep, hub_sent_keep, seat_receives_keep, drains_keep, step_keeps, set_up_sound, run_keeps}
-use Rattle.promises.proofs.Truth.{View, view, hubbed, its_login, Reached, Leads, goal, Stage, Asked, Joined, Way, gone, fetches, joins, Tru, Truth, rehub, after, tru_writes, joined_plain, at_stage, asked_fits, asked_some, joined_answer, joined_complete}
+use Rattle.promises.proofs.Arrivals.{still_part, now_whole}
+use Rattle.promises.proofs.Cases.{Tried, refused, granted, connect_tried, publish_tried, finish_tried, roll_tried, tell_tried, say_tried, leave_tried, passed, asks, NoLogin, Took, got_within, HubActed, hub_bad_lem, hub_admits_lem, hub_rejects, hub_refills, hub_leaves_lem, hub_stays, hub_acted, HubHeard, hub_refused, hub_none, hub_part, hub_fault, hub_whole, hub_heard_lem, seat_gone_lem, SeatActed, seat_leaves, seat_accepts, seat_keeps_lem, seat_passes, seat_skips_lem, seat_completes, seat_told, seat_beaten, seat_tested, seat_acted, SeatHeard, seat_refused, seat_none, seat_part, seat_fault, seat_whole, seat_heard_lem, HubOwes, owes_answer, owes_rejection, owes_message, owes_complete, owes_end, owes_beat, owes_fill, HubSent, sent_refused, sent_none, sent_all_lem, sent_packet, hub_sent_lem, SeatSent, seat_sent_refused, seat_sent_none, seat_sent_request, seat_sent_beat, seat_sent, HubTimed, hub_lasts, hub_lost, hub_late, hub_timed_lem, SeatTimed, seat_lasts, seat_lost, seat_timed_lem}
+use Rattle.promises.proofs.Sound.{Sound, list_grows}
+use Rattle.promises.proofs.Keeps.{Kept, read_valid, rejecting_keeps, not_apart, hub_receives_keep, hub_sent_keep, seat_receives_keep, drains_keep, set_up_sound, run_keeps}
+use Rattle.promises.proofs.Truth.{View, view, hubbed, its_login, Leads, goal, Stage, Asked, Joined, Way, gone, fetches, joins, Tru, Truth, rehub, after, tru_writes, joined_plain, at_stage, joined_answer, joined_complete}
 
 not_accepts : (x : Status) → (x ≡ Accepted → ⊥) → accepts x ≡ false
 not_accepts Accepted ne = absurd (ne refl)

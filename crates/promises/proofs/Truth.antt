@@ -1,11 +1,10 @@
 -- What every call keeps, for the third promise: reading the packets on their way from the seat's count leads at least
 -- as far as the hub has sent, and whoever tells the seat that it is in step tells the truth.
-use Rattle.std.proofs.Common.{◌≡◌, ℕ, ◌+◌, ◌-◌, ◌<◌, ◌≤◌, Bool, true, false, cond, eqb, ◌⊎◌, List, [], ◌∷◌, ◌++◌, length, Some, None, Option, sym, refl, ap, ◌∙◌, subst, inl, inr, ⊎_elim, arith}
+use Rattle.std.proofs.Common.{◌≡◌, ℕ, ◌+◌, ◌-◌, ◌<◌, ◌≤◌, Bool, true, false, ◌⊎◌, List, [], ◌∷◌, ◌++◌, length, Some, None, Option, sym, refl, ap, ◌∙◌, subst, inl, inr, ⊎_elim, arith}
 use Rattle.std.specs.List.{flat_map, AllByRecursion as All}
 use Rattle.std.proofs.lemmas.List.{append-nil}
 use Rattle.std.proofs.ByRecursion.{All-push}
 use Rattle.std.proofs.lemmas.Bool.{cond_both, eq-eqb, ne_eqb, cond-true, cond-false}
-use Rattle.layout.specs.declared.statuses.Status.{Status}
 use Rattle.layout.specs.declared.statuses.Status.TheVariants.{Accepted}
 use Rattle.packet.specs.Values.{Value, Valid, login_request, login_response, sequenced, unsequenced, synchronization_complete, retransmission_request, logout_request, good_bye, end_of_session, hub_heartbeat, seat_heartbeat, test, encode}
 use Rattle.message_log.specs.Meaning.{Meaning, count, size_limit}
@@ -17,7 +16,7 @@ use Rattle.rules.specs.declared.phases.SeatPhase.TheVariants.{Apart, Asking, Liv
 use Rattle.rules.specs.State.{Pair}
 use Rattle.rules.specs.Hub.{first_number, owes}
 use Rattle.rules.specs.Seat.{in_session, next_number}
-use Rattle.promises.specs.Book.{Message, Book}
+use Rattle.promises.specs.Book.{Book}
 use Rattle.promises.specs.Runs.{Begins, Note, as_of, accepts, tells_all, or_else, written}
 use Rattle.promises.specs.Promises.{Holds}
 use Rattle.promises.proofs.Fronts.{clash, begins_refl, begins_length}

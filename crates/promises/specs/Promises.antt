@@ -1,5 +1,5 @@
 -- The three promises of a pair, as laws over runs.
-use Rattle.std.specs.Prelude.{◌≡◌, ℕ, ◌+◌, ◌-◌, ◌≤◌, true, false, List, length, drop, Some, None, Ok, Option}
+use Rattle.std.specs.Prelude.{◌≡◌, ℕ, ◌+◌, ◌-◌, ◌≤◌, true, false, drop, Some, None, Ok, Option}
 use Rattle.layout.specs.declared.statuses.Status.TheVariants.{Accepted}
 use Rattle.message_log.specs.Meaning.{Meaning, count, taken, room}
 use Rattle.account.specs.Logins.{status_for}
@@ -11,7 +11,6 @@ use Rattle.rules.specs.SetUp.{Parts, set_up}
 use Rattle.rules.specs.Seat.{in_session}
 use Rattle.rules.specs.Calls.{done, connected, asked, asked_number, fetch_end}
 use Rattle.rules.specs.Rounds.{Call, Connect, Round, lent_short, Deed, did}
-use Rattle.promises.specs.Book.{Message, Book}
 use Rattle.promises.specs.Runs.{Begins, Note, World, Run, GrantedRounds, SetUp, History}
 
 -- Set-up, of logs and lines that keep their laws, makes a pair of which the promises speak.
