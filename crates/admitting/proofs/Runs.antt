@@ -1,7 +1,7 @@
 -- A row that is marked stays so until it is logged out.
-use Rattle.std.proofs.Common.{◌≡◌, ℕ, ◌<◌, Bool, true, false, cond, ◌⊎◌, List, [], ◌∷◌, ◌++◌, length, Some, None, Ok, Err, Option, Result, sym, refl, ap, ◌∙◌, subst, inl, inr, arith}
+use Rattle.std.proofs.Common.{◌≡◌, ℕ, ◌<◌, Bool, true, false, cond, List, [], ◌∷◌, length, Some, None, Ok, Err, Option, Result, sym, ap, ◌∙◌, subst, inl, inr, arith}
 use Rattle.std.proofs.lemmas.List.{length-append, get_or_append_left}
-use Rattle.std.proofs.lemmas.Bool.{cases_Bool, cases_eq, both_ways}
+use Rattle.std.proofs.lemmas.Bool.{cases_eq, both_ways}
 use Rattle.fault.specs.declared.refusals.Refusal.{Refusal}
 use Rattle.layout.specs.declared.statuses.Status.{Status}
 use Rattle.layout.specs.declared.statuses.Status.TheVariants.{Accepted}
@@ -12,7 +12,6 @@ use Rattle.account.specs.Table.{joining, joined}
 use Rattle.account.proofs.Only.{fits}
 use Rattle.account.proofs.Marking.{marks_one_row}
 use Rattle.account.proofs.Deciding.{right}
-use Rattle.admitting.specs.declared.desks.Answer.{Answer}
 use Rattle.admitting.specs.declared.desks.Answer.TheVariants.{Decided}
 use Rattle.admitting.specs.Commands.{Order, account, hub, login, logout}
 use Rattle.admitting.specs.Desks.{Seen, answered, done, entered, mark_found, is_accepted}

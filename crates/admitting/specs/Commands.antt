@@ -1,5 +1,5 @@
 -- The commands of the line language, and how words write them.
-use Rattle.std.specs.Prelude.{◌≡◌, ℕ, ◌+◌, Bool, true, false, cond, ◌&&◌, List, [], ◌∷◌, length, drop, Some, None, Ok, Err, Option, Result, ◌==◌, nat_lt, slice_index, slice_index_or}
+use Rattle.std.specs.Prelude.{ℕ, Bool, true, false, cond, ◌&&◌, List, [], length, drop, Some, None, Ok, Err, Option, Result, ◌==◌, nat_lt, slice_index, slice_index_or}
 use Rattle.account.specs.declared.fields.Account.{Account}
 use Rattle.account.specs.Logins.{Asked}
 use Rattle.account.specs.Fields.{good, padded, good_fields}

@@ -1,5 +1,5 @@
 -- What comes of a packet that was read.
-use Rattle.std.specs.Prelude.{◌≡◌, Ok, Err, Result}
+use Rattle.std.specs.Prelude.{Ok, Err, Result}
 use Rattle.fault.specs.declared.faults.Fault.{Fault}
 use Rattle.fault.specs.declared.faults.Fault.TheVariants as F
 use Rattle.fault.specs.declared.faults.LogFault.{LogFault}
