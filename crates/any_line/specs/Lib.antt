@@ -1,1 +1,1 @@
-pub mod AnyLineLineLemmas
+pub mod Kinds

@@ -4,7 +4,7 @@ ghost use Rattle.paced.specs.Pacing.{paced_view};
 ghost use Rattle.ring.specs.contracts.rings.RingLine.TheImpl.{ghosts as ring_line};
 ghost use Rattle.straight.specs.contracts.straights.StraightLine.TheImpl.{ghosts as straight_line};
 ghost use Rattle.paced.specs.Views.{paced_sound};
-ghost use Rattle.any_line.specs.AnyLineLineLemmas.{of_ring, of_straight};
+ghost use Rattle.any_line.specs.Kinds.{of_ring, of_straight};
 
 use fault::Refusal;
 use line::Line;

@@ -36,7 +36,7 @@ mod tests {
         assert_eq!(rt; line.room(), SMALLEST_SIZE - 5);
         let mut out = [b'-'; 6];
         assert_eq!(rt; line.take(&mut out), 5);
-        assert!(rt; &out[0..6] == b"hello-");
+        assert!(rt; &out[0..6] == b"hello-".as_slice());
         Ok(())
     }
 
@@ -49,7 +49,7 @@ mod tests {
         assert_eq!(rt; line.room(), SMALLEST_SIZE - 2);
         assert_eq!(rt; line.take(&mut out), 1);
         assert_eq!(rt; line.room(), SMALLEST_SIZE);
-        assert!(rt; &out[0..3] == b"b--");
+        assert!(rt; &out[0..3] == b"b--".as_slice());
         Ok(())
     }
 
@@ -100,7 +100,7 @@ mod tests {
         assert_eq!(rt; from.waiting(), 0);
         let mut out = [b'-'; 12];
         assert_eq!(rt; to.take(&mut out), 11);
-        assert!(rt; &out[0..12] == b"hello, line-");
+        assert!(rt; &out[0..12] == b"hello, line-".as_slice());
         match transfer(&mut to, &mut from, &mut []) {
             Ok(_) => Err(Fail::new("moved")),
             Err(refusal) => {

@@ -1,5 +1,5 @@
 -- How a choice is written.
-use Rattle.std.specs.Prelude.{◌≡◌, ℕ, List, [], ◌∷◌, Some, None, Option, ◌≢◌}
+use Rattle.std.specs.Prelude.{◌≡◌, List, [], ◌∷◌, Some, None, Option, ◌≢◌}
 use Rattle.pump.specs.declared.choices.Choice.{Choice}
 use Rattle.pump.specs.declared.choices.Layers.{Layers}
 use Rattle.pump.specs.declared.choices.Layers.TheVariants as L

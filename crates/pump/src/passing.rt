@@ -34,7 +34,7 @@ fn through<L: Line>(
     input: &[u8],
     piece: PieceSize,
 ) -> Result<Account, Refusal>
-    ensures { MatchResult result (λ account. Pumped (view line.old) input.now piece.bytes account (view line.new)) (λ e. e ≡ R.OutOfMemory) }
+    ensures { MatchResult result (λ account. Pumped (L.Line.view line.old) input.now piece.bytes account (L.Line.view line.new)) (λ e. e ≡ R.OutOfMemory) }
 {
     match run(heap, line, input, piece) {
         Ok(account) => Ok(account),

@@ -1,5 +1,5 @@
 -- Counting deeds.
-use Rattle.std.specs.Prelude.{ℕ, ◌+◌, List, [], ◌∷◌}
+use Rattle.std.specs.Prelude.{◌+◌, List, [], ◌∷◌}
 use Rattle.pumping.specs.declared.accounts.Act.{Act}
 use Rattle.pumping.specs.declared.accounts.Act.TheVariants as A
 use Rattle.pumping.specs.declared.accounts.Deed.{Deed}

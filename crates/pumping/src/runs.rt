@@ -10,7 +10,7 @@ use std::alloc::{AllocError, Global};
 
 /// Adds a deed to the account, with what waits and the room now.
 fn note<L: Line>(account: &mut Account, act: Act, bytes: usize, line: &L) -> Result<(), AllocError>
-    ensures { OnOk result (Noted account.old act bytes (view line.now) account.new) }
+    ensures { OnOk result (Noted account.old act bytes (L.Line.view line.now) account.new) }
 {
     let waiting = line.waiting();
     let room = line.room();
@@ -24,7 +24,7 @@ fn note<L: Line>(account: &mut Account, act: Act, bytes: usize, line: &L) -> Res
 
 /// Offers a piece to the line, and says whether it was granted.
 fn offer<L: Line>(line: &mut L, piece: &[u8], account: &mut Account) -> Result<bool, AllocError>
-    ensures { IfOk result (λ granted. Offered (view line.old) account.old piece.now granted (view line.new) account.new) }
+    ensures { IfOk result (λ granted. Offered (L.Line.view line.old) account.old piece.now granted (L.Line.view line.new) account.new) }
 {
     match line.put(piece) {
         Ok(()) => {
@@ -40,7 +40,7 @@ fn offer<L: Line>(line: &mut L, piece: &[u8], account: &mut Account) -> Result<b
 
 /// Takes once.
 fn draw<L: Line>(line: &mut L, buffer: &mut [u8], account: &mut Account) -> Result<(), AllocError>
-    ensures { OnOk result (Drew (view line.old) account.old (length buffer.old) (view line.new) account.new) }
+    ensures { OnOk result (Drew (L.Line.view line.old) account.old (length buffer.old) (L.Line.view line.new) account.new) }
 {
     let taken = line.take(buffer);
     account.receive(&buffer[0..taken])?;
@@ -56,7 +56,7 @@ fn make_room<L: Line>(
 ) -> Result<(), AllocError>
     requires some { 1 ≤ length buffer.old }
     requires most { bytes ≤ packet_limit }
-    ensures { OnOk result (Drawn (view line.old) account.old (length buffer.old) (view line.new) account.new × (bytes ≤ (view line.new).room)) }
+    ensures { OnOk result (Drawn (L.Line.view line.old) account.old (length buffer.old) (L.Line.view line.new) account.new × (bytes ≤ (L.Line.view line.new).room)) }
 {
     while line.room() < bytes {
         draw(line, buffer, account)?;
@@ -67,7 +67,7 @@ fn make_room<L: Line>(
 /// Takes until nothing waits.
 fn drain<L: Line>(line: &mut L, buffer: &mut [u8], account: &mut Account) -> Result<(), AllocError>
     requires some { 1 ≤ length buffer.old }
-    ensures { OnOk result (Drawn (view line.old) account.old (length buffer.old) (view line.new) account.new × (length (view line.new).waiting ≡ 0)) }
+    ensures { OnOk result (Drawn (L.Line.view line.old) account.old (length buffer.old) (L.Line.view line.new) account.new × (length (L.Line.view line.new).waiting ≡ 0)) }
 {
     while line.waiting() > 0 {
         draw(line, buffer, account)?;
@@ -84,7 +84,7 @@ fn send<L: Line>(
 ) -> Result<(), AllocError>
     requires some { 1 ≤ length buffer.old }
     requires most { length piece.now ≤ packet_limit }
-    ensures { OnOk result (Sent (view line.old) account.old (length buffer.old) piece.now (view line.new) account.new) }
+    ensures { OnOk result (Sent (L.Line.view line.old) account.old (length buffer.old) piece.now (L.Line.view line.new) account.new) }
 {
     if !offer(line, piece, account)? {
         make_room(line, piece.len(), buffer, account)?;
@@ -100,7 +100,7 @@ pub fn run<L: Line>(
     input: &[u8],
     piece: PieceSize,
 ) -> Result<Account, AllocError>
-    ensures { IfOk result (λ account. Pumped (view line.old) input.now piece.bytes account (view line.new)) }
+    ensures { IfOk result (λ account. Pumped (L.Line.view line.old) input.now piece.bytes account (L.Line.view line.new)) }
 {
     let mut account = Account::new(heap);
     let mut buffer = vec![in heap; 0u8; piece.bytes()]?;

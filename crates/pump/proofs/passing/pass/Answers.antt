@@ -22,19 +22,19 @@ no_memory : (choice : Choice) (r : Result Account Refusal) (P : Account → Type
 no_memory choice (Ok account) P h = tt
 no_memory choice (Err refusal) P h = λ e _. let z : ◌≡◌ {A = ℕ} 0 1 = cc in omega arith
 
-pub returns-in-ok-line-3 : goal.returns-in-ok-line-3
-returns-in-ok-line-3 c =
+pub returns-in_ok-line-in-Twice : goal.returns-in_ok-line-in-Twice
+returns-in_ok-line-in-Twice c =
     let choice = c.args.choice in
     let twice = c.in-Twice in
     record {
       made =
-          passes choice c.args.input.now c.through-in-Twice.result _ _ c.in-ok-piece.piece.bytes (
-            subst PieceLength c.in-ok-piece.ensures c.in-ok-piece.piece.ok,
-            subst LayersAllowed (sym twice.is) (c.in-ok-line-3.ensures.0, c.in-ok-make-line.ensures.made.0),
+          passes choice c.args.input.now c.through-in-Twice.result _ _ c.in_ok-piece.piece.bytes (
+            subst PieceLength c.in_ok-piece.ensures c.in_ok-piece.piece.ok,
+            subst LayersAllowed (sym twice.is) (c.in_ok-line-in-Twice.ensures.0, c.in_ok-make_line-in-Twice.ensures.made.0),
           )
-          c.in-ok-piece.ensures
-          (c.in-ok-line-3.ensures.1
-          ∙ ap (λ q. paced_view q twice.outer) c.in-ok-make-line.ensures.made.1
+          c.in_ok-piece.ensures
+          (c.in_ok-line-in-Twice.ensures.1
+          ∙ ap (λ q. paced_view q twice.outer) c.in_ok-make_line-in-Twice.ensures.made.1
           ∙ ap (λ q. chosen_view q choice.kind) (sym twice.is))
           c.through-in-Twice.ensures;
       refused = no_memory choice c.through-in-Twice.result _ c.through-in-Twice.ensures;

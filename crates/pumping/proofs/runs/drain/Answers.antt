@@ -10,4 +10,4 @@ loop-line-preserved g c = λ input fed.
     more (c.loop-line.invariant input fed)
     (subst
     (λ n. Step input n (pump (g.L.Line.view c.loop-line.line) fed c.loop-line.account) (pump (g.L.Line.view c.draw.new.line) fed c.draw.new.account))
-    c.loop-line.auto.buffer (c.in-ok-draw.ensures.step input fed))
+    c.loop-line.auto.buffer (c.in_ok-draw.ensures.step input fed))

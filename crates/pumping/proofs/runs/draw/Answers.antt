@@ -16,6 +16,6 @@ returns g c =
     ∙ take_at (take k waiting) (drop k c.args.buffer.now) k (front_length t) in
     IfOk-weaker c.note.result _ _
     (λ _ n.
-    did_take t c.in-ok-receive.ensures.deeds
-    (c.in-ok-receive.ensures.out ∙ ap (λ q. vec_items c.args.account.now.out ++ q) piece) n)
+    did_take t c.in_ok-receive.ensures.deeds
+    (c.in_ok-receive.ensures.out ∙ ap (λ q. vec_items c.args.account.now.out ++ q) piece) n)
     c.note.ensures

@@ -1,4 +1,4 @@
-use Rattle.std.proofs.Common.{ℕ, List, length}
+use Rattle.std.proofs.Common.{length}
 use Rattle.pumping.specs.Pumping.{Drawn}
 use Rattle.pumping.proofs.runs.make_room.Given as goal
 

@@ -1,4 +1,4 @@
-use Rattle.std.proofs.Common.{◌≡◌, ◌+◌, ◌-◌, ◌≤◌, min, [], ◌++◌, length, take, drop, sym, ap, ◌∙◌, subst, arith, length-drop, length-take, take-add, rules}
+use Rattle.std.proofs.Common.{◌≡◌, ◌+◌, ◌-◌, min, [], ◌++◌, length, take, drop, sym, ap, ◌∙◌, subst, arith, length-drop, length-take, take-add, rules}
 use Rattle.std.proofs.lemmas.List.{take_all}
 use Rattle.line.specs.Lines.{LineView}
 use Rattle.pumping.specs.Pumping.{Pump, Steps, pump, next_piece}
@@ -39,7 +39,7 @@ loop-sent-preserved g c =
     let after = pump (g.L.Line.view c.send.new.line) (take sent input ++ piece) c.send.new.account in
     let went : Steps input size (pump (g.L.Line.view c.loop-sent.line) (take sent input) c.loop-sent.account) after =
     subst (λ q. piece ≡ next_piece input q (take sent input) → Steps input q (pump (g.L.Line.view c.loop-sent.line) (take sent input) c.loop-sent.account) after)
-    long (c.in-ok-send.ensures input (take sent input)) cut in (
+    long (c.in_ok-send.ensures input (take sent input)) cut in (
       subst (λ q. Steps input size (begins (g.L.Line.view c.clear.new.self)) (pump (g.L.Line.view c.send.new.line) q c.send.new.account)) e
           (steps_then c.loop-sent.invariant.0 went),
       omega (arith, c.min-n.ensures, c.loop-sent.invariant.1),
@@ -56,8 +56,8 @@ returns g c =
     let long : length c.as_mut_slice-2.result.now ≡ size = c.as_mut_slice-2.ensures.len ∙ c.loop-sent.invariant.2 in
     let drawn : Steps input size (pump (g.L.Line.view c.loop-sent.line) (take sent input) c.loop-sent.account) (pump w (take sent input) a) =
     subst (λ q. Steps input q (pump (g.L.Line.view c.loop-sent.line) (take sent input) c.loop-sent.account) (pump w (take sent input) a))
-    long (c.in-ok-drain.ensures.0 input (take sent input)) in
+    long (c.in_ok-drain.ensures.0 input (take sent input)) in
     ended size c.clear.ensures
     (subst (λ q. Steps input size (begins (g.L.Line.view c.clear.new.self)) (pump w q a)) (take_all sent input c.loop-sent-test.false)
     (steps_then c.loop-sent.invariant.0 drawn))
-    c.in-ok-drain.ensures.1
+    c.in_ok-drain.ensures.1

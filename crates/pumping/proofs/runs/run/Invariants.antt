@@ -1,5 +1,5 @@
 use Rattle.std.proofs.Common.{◌≡◌, ◌-◌, ◌≤◌, [], length, take, vec_len}
-use Rattle.pumping.specs.Pumping.{Pump, Steps, pump}
+use Rattle.pumping.specs.Pumping.{Steps, pump}
 use Rattle.pumping.proofs.runs.run.Given as goal
 
 abbrev pub invariant-loop-sent : goal.invariant-loop-sent

@@ -1,3 +1,4 @@
+-- Each kind of line in the enum is sound.
 use Rattle.std.proofs.Common.{sym}
 use Rattle.line.specs.Lines.{Sound}
 use Rattle.ring.specs.Views.{ring_sound}
