@@ -5,7 +5,7 @@ ghost use Rattle.std.specs.Prelude.{◌≡◌};
 ghost use Rattle.message_log.specs.Meaning.{Meaning};
 ghost use Rattle.any_log.specs.Kinds.{inside};
 ghost use Rattle.journal.specs.Sounds.{journal_sound};
-ghost use Rattle.indexed.proofs.Sounds.{indexed_sound};
+ghost use Rattle.indexed.specs.Sounds.{indexed_sound};
 ghost use Rattle.any_log.specs.declared.AnyLog.TheVariants.{Journal, Indexed};
 
 use fault::Refusal;

@@ -11,7 +11,6 @@ ghost use Rattle.message_log.specs.Calls.{Lent};
 ghost use Rattle.pool.specs.Bytes.{Bytes};
 ghost use Rattle.pool.specs.Parts.{edge, Rising};
 ghost use Rattle.indexed.specs.Pooled.{places_limit, makes, pooled};
-ghost use Rattle.std.proofs.Common.{rules, arith};
 
 use fault::{Refusal, Unmade};
 use message_log::{Log, Space};
@@ -92,9 +91,11 @@ impl Indexed {
 }
 
 impl Log for Indexed {
+    ghost use Rattle.indexed.specs.Sounds.{indexed_sound};
+
     ghost view = { λ s. pooled s.session s.pool.items s.ends.items s.count };
 
-    ghost sound = { first_of (Prim.search rules, Prim.grind (arith, Self.row.coded.inj)) };
+    ghost sound = { indexed_sound };
 
     fn session(&self) -> u8 {
         self.session

@@ -1,5 +1,5 @@
 -- The saved form tells the log: where a saved log goes on, a record stands.
-use Rattle.std.proofs.Common.{◌≡◌, ℕ, zero, suc, ◌+◌, ◌-◌, ◌<◌, ◌≤◌, List, [], ◌∷◌, ◌++◌, length, get_or, take, drop, is_some, Ok, Err, Result, sym, refl, ap, ◌∙◌, inl, inr, arith}
+use Rattle.std.proofs.Common.{◌≡◌, ℕ, suc, ◌-◌, ◌<◌, ◌≤◌, List, [], ◌∷◌, ◌++◌, length, get_or, take, drop, is_some, Ok, Err, Result, sym, refl, ap, ◌∙◌, inl, inr, arith}
 use Rattle.std.specs.List.{flat_map}
 use Rattle.std.proofs.lemmas.List.{append_assoc, append_cancel_left, take-append-drop, take-take, take_all, drop-append-le, length-append, length-take-le, length-drop}
 use Rattle.std.proofs.lemmas.Bool.{cases_eq, cases_order}
@@ -8,7 +8,7 @@ use Rattle.record.specs.declared.records.RecordFault.{RecordFault}
 use Rattle.record.specs.Format.{session_record, message_record, saved}
 use Rattle.record.specs.Reading.{session_of, message_of, fault_in}
 use Rattle.record.proofs.Framed.{session_reads_back, message_reads_back, fault_later}
-use Rattle.journal.specs.Opening.{Savable, Broken, front, later}
+use Rattle.journal.specs.Opening.{Savable, front, later}
 use Rattle.journal.specs.Laws.{SavedOnce, SavedIsSound, BrokenOnce, BrokenHasAFault}
 
 -- no message is too long

@@ -1,10 +1,10 @@
 -- The bytes in use, and one record more.
 use Rattle.std.proofs.Common.{◌≡◌, ℕ, ◌+◌, ◌-◌, ◌<◌, ◌≤◌, List, [], ◌∷◌, ◌++◌, length, get_or, take, drop, set, Ok, sym, refl, ap, ◌∙◌, arith}
 use Rattle.std.specs.List.{between}
-use Rattle.std.proofs.lemmas.List.{append-nil, flat_map_more, take-append-drop, take-take, take_at, drop-take, drop-drop, length-append, length-take-le, length-set}
+use Rattle.std.proofs.lemmas.List.{flat_map_more, take-append-drop, take-take, take_at, drop-take, drop-drop, length-append, length-take-le, length-set}
 use Rattle.layout.specs.Limits.{message_limit}
 use Rattle.pool.specs.Bytes.{Bytes, over}
-use Rattle.pool.specs.Parts.{edge, parts, Rising}
+use Rattle.pool.specs.Parts.{edge, parts}
 use Rattle.pool.proofs.Filed.{short_parts}
 use Rattle.pool.proofs.Edges.{rising_more, edge_more, parts_set}
 use Rattle.record.specs.Format.{session_record, message_record, saved}

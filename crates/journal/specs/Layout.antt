@@ -2,7 +2,7 @@
 --
 --     0            5                    edge 1                      used
 --     | session 7  | 4D 47 length  m1   | 4D 47 length  m2  | ..     |  free ..
-use Rattle.std.specs.Prelude.{◌≡◌, ℕ, ◌+◌, ◌-◌, ◌/◌, ◌<◌, ◌≤◌, Bool, cond, ◌&&◌, List, [], length, take, Ok, Err, Result, nat_le}
+use Rattle.std.specs.Prelude.{◌≡◌, ℕ, ◌+◌, ◌-◌, ◌/◌, ◌<◌, ◌≤◌, Bool, cond, ◌&&◌, List, length, take, Ok, Err, Result, nat_le}
 use Rattle.fault.specs.declared.refusals.Refusal.{Refusal}
 use Rattle.fault.specs.declared.refusals.Refusal.TheVariants.{NoSuchMessage}
 use Rattle.message_log.specs.Meaning.{Meaning, size_limit, taken}

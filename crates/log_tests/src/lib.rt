@@ -59,14 +59,14 @@ mod tests {
         };
         assert_eq!(rt; journal.begin(7), Ok(()));
         assert_eq!(rt; journal.append(b"AB"), Ok(()));
-        assert_eq!(rt; journal.bytes(), &EXAMPLE);
+        assert_eq!(rt; journal.bytes(), EXAMPLE.as_slice());
         let copy = journal.bytes().to_vec(heap)?;
         let Ok(opened) = Journal::open(heap, copy, 11) else {
             return Err(Fail::new("the example opens"));
         };
         assert_eq!(rt; opened.session(), 7);
         assert_eq!(rt; opened.count(), 1);
-        assert_eq!(rt; opened.message(1), Ok(b"AB"));
+        assert_eq!(rt; opened.message(1), Ok(b"AB".as_slice()));
         Ok(())
     }
 
@@ -77,7 +77,7 @@ mod tests {
             return Err(Fail::new("the example without its last byte is broken"));
         };
         assert_eq!(rt; cut.refusal, Refusal::BrokenLog(5));
-        assert_eq!(rt; cut.given.as_slice(), &EXAMPLE);
+        assert_eq!(rt; cut.given.as_slice(), EXAMPLE.as_slice());
         let Err(over) = Journal::open(heap, cut.given, 12) else {
             return Err(Fail::new("there are no 12 bytes"));
         };

@@ -1,5 +1,5 @@
 -- What a verdict says of the message.
-use Rattle.std.proofs.Common.{◌≡◌, ℕ, ◌+◌, ◌<◌, ◌≤◌, Ok, arith, rules}
+use Rattle.std.proofs.Common.{◌≡◌, ℕ, ◌+◌, ◌<◌, ◌≤◌, Ok, rules}
 use Rattle.layout.specs.Limits.{message_limit}
 use Rattle.message_log.specs.Calls.{verdict}
 

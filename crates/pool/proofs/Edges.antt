@@ -3,8 +3,7 @@ use Rattle.std.proofs.Common.{◌≡◌, ℕ, zero, suc, ◌+◌, ◌-◌, ◌<�
 use Rattle.std.specs.List.{between}
 use Rattle.std.proofs.lemmas.List.{get_or-set_same, get_or-set_other}
 use Rattle.layout.specs.Limits.{message_limit}
-use Rattle.message_log.specs.Meaning.{added}
-use Rattle.pool.specs.Parts.{edge, parts, Rising, filed}
+use Rattle.pool.specs.Parts.{edge, parts, Rising}
 use Rattle.pool.proofs.Filed.{parts_more}
 
 pub edge_past : (base : ℕ) (ends : List ℕ) (k : ℕ) → 0 < k → edge base ends k ≡ get_or ends (k - 1) 0

@@ -7,7 +7,7 @@ use Rattle.std.proofs.lemmas.Slice.{between_is}
 use Rattle.std.proofs.lemmas.List.{get_or_past, take-take}
 use Rattle.std.proofs.lemmas.Bool.{cases_lt, cases_eq, and_from, and_left, and_right, le-leb, lt-leb}
 use Rattle.layout.specs.Limits.{message_limit}
-use Rattle.message_log.specs.Meaning.{taken, room, added, Sound, size_limit}
+use Rattle.message_log.specs.Meaning.{taken, room, Sound, size_limit}
 use Rattle.message_log.specs.Calls.{verdict, takes, has}
 use Rattle.message_log.proofs.Verdicts.{verdict_ok}
 use Rattle.pool.specs.Bytes.{Bytes}

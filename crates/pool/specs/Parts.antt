@@ -2,7 +2,7 @@
 --
 --     base      edge 1         edge 2            edge n
 --      | gap | m1 | gap |  m2   | ..  | gap | mn |  free ..
-use Rattle.std.specs.Prelude.{◌≡◌, ℕ, suc, ◌+◌, ◌-◌, ◌<◌, ◌≤◌, List, [], ◌∷◌, map, length, slice_index}
+use Rattle.std.specs.Prelude.{ℕ, suc, ◌+◌, ◌<◌, ◌≤◌, List, ◌∷◌, map, slice_index}
 use Rattle.std.specs.List.{range_with_len, between}
 use Rattle.layout.specs.Limits.{message_limit}
 use Rattle.message_log.specs.Meaning.{Meaning}

@@ -1,15 +1,14 @@
 -- One record at the front of some bytes: read after it was written, and written again after it was read.
-use Rattle.std.proofs.Common.{◌≡◌, ℕ, ◌+◌, ◌-◌, ◌*◌, ◌/◌, ◌%◌, ◌<◌, ◌≤◌, eqb, ltb, List, [], ◌∷◌, ◌++◌, length, get_or, take, drop, Ok, Err, Result, sym, refl, ap, ◌∙◌, inl, inr, arith, rules}
+use Rattle.std.proofs.Common.{◌≡◌, ℕ, ◌+◌, ◌*◌, ◌/◌, ◌%◌, ◌<◌, ◌≤◌, List, [], ◌∷◌, ◌++◌, length, get_or, take, drop, Ok, Err, Result, sym, refl, ap, ◌∙◌, inl, inr, arith, rules}
 use Rattle.std.proofs.lemmas.List.{take_at, take-append-drop, length-append, length-take-le, drop-drop}
 use Rattle.std.proofs.lemmas.Bool.{cond-true, cond-false, le-ltb, lt-ltb, ne_eqb, cases_lt}
 use Rattle.layout.specs.Limits.{message_limit}
-use Rattle.pool.specs.Bytes.{Bytes}
 use Rattle.record.specs.declared.records.Mark.{Mark}
 use Rattle.record.specs.declared.records.Mark.TheVariants.{Session, Message}
 use Rattle.record.specs.declared.records.RecordFault.{RecordFault}
 use Rattle.record.specs.declared.records.RecordFault.TheVariants.{CutShort}
-use Rattle.record.specs.Format.{session_record, message_record}
-use Rattle.record.specs.Reading.{mark_of, session_in, message_in, marked, framed, session_of, message_of, fault_in, fault_at}
+use Rattle.record.specs.Format.{session_record}
+use Rattle.record.specs.Reading.{mark_of, session_in, message_in, marked, framed, message_of, fault_in, fault_at}
 use Rattle.record.specs.Laws.{SessionReadsBack, MessageReadsBack, SessionWasWritten, MessageWasWritten}
 
 -- a head with a body behind it

@@ -1,4 +1,4 @@
-use Rattle.std.proofs.Common.{◌≡◌, ◌++◌, get_or, take, sym, ap, ◌∙◌, arith}
+use Rattle.std.proofs.Common.{◌≡◌, ◌++◌, get_or, take, sym, ap, ◌∙◌}
 use Rattle.std.specs.List.{flat_map}
 use Rattle.std.proofs.lemmas.List.{flat_map_more, take_more, take_all}
 use Rattle.dump.specs.Rows.{hex_of}
@@ -12,7 +12,7 @@ loop-byte-preserved c =
     let inv : c.loop-byte.line.items ≡ start ++ flat_map hex_of (take i xs) = c.loop-byte.invariant in
     let one = flat_map_more hex_of start (take i xs) (get_or xs i 0) in
     let front = take_more xs i 0 c.loop-byte-test.true in
-    let added = c.in-ok-extend-from-slice.ensures.items in
+    let added = c.in_ok-extend_from_slice.ensures.items in
     added ∙ (ap (λ t. c.loop-byte.line.items ++ t) c.hex.ensures ∙ (ap (λ t. t ++ hex_of (get_or xs i 0)) inv ∙ (one ∙ ap (λ t. start ++ flat_map hex_of t) (sym front))))
 
 pub returns : goal.returns

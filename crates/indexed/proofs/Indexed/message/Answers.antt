@@ -1,9 +1,9 @@
-use Rattle.std.proofs.Common.{◌≡◌, ◌+◌, ◌-◌, ◌≤◌, [], length, get_or, refl, ap, ◌∙◌, arith, rules}
+use Rattle.std.proofs.Common.{◌≡◌, ◌-◌, ◌≤◌, [], length, get_or, refl, ap, ◌∙◌, arith}
 use Rattle.std.specs.List.{between}
 use Rattle.pool.specs.Parts.{edge, parts}
 use Rattle.pool.proofs.Filed.{bounds_are, has_filed, hasnt_filed}
 use Rattle.indexed.proofs.Indexed.message.Goals as goal
-use Rattle.indexed.proofs.Indexed.message.Goals.{then-n-eq0-via-then-n-eq0, then-n-eq0-via-else-n-eq0+then-n-self}
+use Rattle.indexed.proofs.Indexed.message.Goals.{After-deref, then-n-eq0-via-then-n-eq0, then-n-eq0-via-else-n-eq0+then-n-self}
 
 pub returns-then-n-eq0 : goal.returns-then-n-eq0
 returns-then-n-eq0 c =
@@ -15,24 +15,24 @@ returns-then-n-eq0 c =
       refl,
     )
 
-bounds : (c : goal.After-deref) → (between c.edge-at-start.result c.edge-at-end.result c.args.self.now.pool.items ≡ get_or (parts c.args.self.now.pool.items (edge 0 c.args.self.now.ends.items) 0 c.args.self.now.count) (c.args.n - 1) []) × (c.edge-at-start.result ≤ c.edge-at-end.result) × (c.edge-at-end.result ≤ length c.args.self.now.pool.items)
+bounds : (c : After-deref) → (between c.edge_at-start.result c.edge_at-end.result c.args.self.now.pool.items ≡ get_or (parts c.args.self.now.pool.items (edge 0 c.args.self.now.ends.items) 0 c.args.self.now.count) (c.args.n - 1) []) × (c.edge_at-start.result ≤ c.edge_at-end.result) × (c.edge_at-end.result ≤ length c.args.self.now.pool.items)
 bounds c =
     let s = c.args.self.now in
     let ne = c.if-n-eq0.false in
-    bounds_are s.pool.items (edge 0 s.ends.items) 0 s.count c.args.n c.edge-at-start.result c.edge-at-end.result (omega arith) c.if-n-self.false s.rising (omega arith) (omega arith) c.edge-at-end.ensures
+    bounds_are s.pool.items (edge 0 s.ends.items) 0 s.count c.args.n c.edge_at-start.result c.edge_at-end.result (omega arith) c.if-n-self.false s.rising (omega arith) (omega arith) c.edge_at-end.ensures
 
-pub slice-bounds-result-count : goal.slice-bounds-result-count
-slice-bounds-result-count c = (bounds c).1
+pub slice_bounds-result-count : goal.slice_bounds-result-count
+slice_bounds-result-count c = (bounds c).1
 
-pub slice-bounds-result-start : goal.slice-bounds-result-start
-slice-bounds-result-start c = (bounds c).1
+pub slice_bounds-result-start : goal.slice_bounds-result-start
+slice_bounds-result-start c = (bounds c).1
 
-pub slice-bounds-result-end : goal.slice-bounds-result-end
-slice-bounds-result-end c = let b = bounds c in omega arith
+pub slice_bounds-result-end : goal.slice_bounds-result-end
+slice_bounds-result-end c = let b = bounds c in omega arith
 
 pub returns : goal.returns
 returns c =
     let s = c.args.self.now in
     let ne = c.if-n-eq0.false in
-    let b = bounds_are s.pool.items (edge 0 s.ends.items) 0 s.count c.args.n c.edge-at-start.result c.edge-at-end.result (omega arith) c.if-n-self.false s.rising (omega arith) (omega arith) c.edge-at-end.ensures in
-    (has_filed s.session s.pool.items (edge 0 s.ends.items) 0 s.pool.len s.ends.len s.count c.args.n (omega arith) c.if-n-self.false, ap (between c.edge-at-start.result c.edge-at-end.result) c.deref.ensures.value ∙ b.0)
+    let b = bounds_are s.pool.items (edge 0 s.ends.items) 0 s.count c.args.n c.edge_at-start.result c.edge_at-end.result (omega arith) c.if-n-self.false s.rising (omega arith) (omega arith) c.edge_at-end.ensures in
+    (has_filed s.session s.pool.items (edge 0 s.ends.items) 0 s.pool.len s.ends.len s.count c.args.n (omega arith) c.if-n-self.false, ap (between c.edge_at-start.result c.edge_at-end.result) c.deref.ensures.value ∙ b.0)

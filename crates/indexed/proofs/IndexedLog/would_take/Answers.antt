@@ -1,5 +1,4 @@
-use Rattle.std.proofs.Common.{◌≡◌, ap, ◌∙◌, arith}
-use Rattle.message_log.specs.Calls.{verdict}
+use Rattle.std.proofs.Common.{arith}
 use Rattle.pool.specs.Parts.{edge}
 use Rattle.pool.proofs.Filed.{takes_filed}
 use Rattle.indexed.proofs.IndexedLog.would_take.Goals as goal

@@ -6,4 +6,4 @@ pub returns-then-at-len : goal.returns-then-at-len
 returns-then-at-len c =
     let v = c.args.bytes.now in
     let m = c.args.piece.now in
-    record { items = put_is v c.deref-mut.result.now c.copy-from-slice.new.self m c.args.at _ c.deref-mut.ensures.value c.copy-from-slice.ensures.after (omega arith) (omega arith) ∙ sym (overlaid_is v.items c.args.at m (omega arith)); len = refl }
+    record { items = put_is v c.deref_mut.result.now c.copy_from_slice.new.self m c.args.at _ c.deref_mut.ensures.value c.copy_from_slice.ensures.after (omega arith) (omega arith) ∙ sym (overlaid_is v.items c.args.at m (omega arith)); len = refl }

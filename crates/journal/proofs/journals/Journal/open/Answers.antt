@@ -1,7 +1,7 @@
-use Rattle.std.proofs.Common.{◌≡◌, true, ◌&&◌, leb, length, sym, refl, ap, ◌∙◌, subst, arith}
+use Rattle.std.proofs.Common.{◌≡◌, true, length, sym, refl, ◌∙◌, subst, arith}
 use Rattle.std.proofs.lemmas.Bool.{and_from, le-leb}
 use Rattle.pool.specs.Parts.{edge, parts}
-use Rattle.journal.specs.Layout.{makes, base, gap, journaled}
+use Rattle.journal.specs.Layout.{makes, base, gap}
 use Rattle.journal.specs.Opening.{Opened, opens}
 use Rattle.journal.proofs.Laying.{savable_laid}
 use Rattle.journal.proofs.Forms.{saved_once, saved_is_sound}

@@ -1,4 +1,4 @@
-use Rattle.std.proofs.Common.{◌≡◌, ◌-◌, length, Ok, sym, refl, ap, ◌∙◌, arith}
+use Rattle.std.proofs.Common.{length, Ok, sym, ap, ◌∙◌, arith}
 use Rattle.std.proofs.lemmas.Bool.{cond-true, cond-false}
 use Rattle.pool.specs.Parts.{edge}
 use Rattle.pool.proofs.Filed.{has_filed, hasnt_filed, place_filed}
@@ -21,4 +21,4 @@ returns c =
     let len = length s.memory.items in
     let ne = c.if-n-eq0.false in
     let here = place_filed s.memory.items (edge 5 s.ends.items) 4 s.count c.args.n s.rising (omega arith) (omega arith) c.if-n-self.false in
-    ap Ok (c.edge-at.ensures ∙ here) ∙ sym (cond-true _ _ _ (has_filed s.session s.memory.items (edge 5 s.ends.items) 4 (size_of len) (places_of len) s.count c.args.n (omega arith) c.if-n-self.false))
+    ap Ok (c.edge_at.ensures ∙ here) ∙ sym (cond-true _ _ _ (has_filed s.session s.memory.items (edge 5 s.ends.items) 4 (size_of len) (places_of len) s.count c.args.n (omega arith) c.if-n-self.false))

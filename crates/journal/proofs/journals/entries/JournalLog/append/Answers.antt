@@ -1,9 +1,8 @@
-use Rattle.std.proofs.Common.{◌≡◌, ℕ, ◌+◌, ◌-◌, ◌<◌, ◌≤◌, List, [], ◌∷◌, ◌++◌, length, take, drop, set, Ok, sym, refl, ap, ◌∙◌, arith}
-use Rattle.std.proofs.lemmas.List.{length-set}
+use Rattle.std.proofs.Common.{◌≡◌, ℕ, ◌+◌, ◌<◌, ◌≤◌, List, length, set, Ok, sym, refl, ap, ◌∙◌, arith}
 use Rattle.layout.specs.Limits.{message_limit}
 use Rattle.message_log.specs.Calls.{takes}
 use Rattle.pool.specs.Bytes.{Bytes, over}
-use Rattle.pool.specs.Parts.{edge, parts}
+use Rattle.pool.specs.Parts.{edge}
 use Rattle.pool.proofs.Overlays.{bytes_over, length_over}
 use Rattle.pool.proofs.Filed.{fit_filed}
 use Rattle.record.specs.Format.{message_record}
@@ -29,22 +28,34 @@ more s m mem' ok is =
     let w = wrote_record mem mem' m u is (omega arith) in
     laid_more mem mem' s.ends.items m u (u + 4 + length m) s.session s.count (s.rising, s.last, omega arith, s.byte, s.silent, s.form) w.0 w.1 refl f.0 f.3 f.2
 
-pub write-message-requires : goal.write-message-requires
-write-message-requires c = let f = fit c.args.self.now c.args.message.now (sym c.would-take.ensures ∙ c.in-ok-would-take.was) in omega arith
+pub write_message-requires : goal.write_message-requires
+write_message-requires c = let f = fit c.args.self.now c.args.message.now (sym c.would_take.ensures ∙ c.in_ok-would_take.was) in omega arith
 
-pub index-mut-requires : goal.index-mut-requires
-index-mut-requires c = let f = fit c.args.self.now c.args.message.now (sym c.would-take.ensures ∙ c.in-ok-would-take.was) in omega arith
+pub index_mut-requires : goal.index_mut-requires
+index_mut-requires c = let f = fit c.args.self.now c.args.message.now (sym c.would_take.ensures ∙ c.in_ok-would_take.was) in omega arith
 
-pub invariant-of-self : goal.invariant-of-self
-invariant-of-self c =
+pub invariant_of-self : goal.invariant_of-self
+invariant_of-self c =
     let s = c.args.self.now in
     let m = c.args.message.now in
-    let ok = sym c.would-take.ensures ∙ c.in-ok-would-take.was in
+    let ok = sym c.would_take.ensures ∙ c.in_ok-would_take.was in
     let f = fit s m ok in
-    let w = c.write-message.ensures in
-    let laid = more s m c.write-message.new.memory.items ok w.items in
-    let bytes : Bytes c.write-message.new.memory.items = rw w.items (bytes_over s.memory.items s.used (message_record m) s.bytes w.bytes) in
-    (omega arith, (omega arith, (omega arith, (omega arith, (bytes, (laid.0, (laid.1, (omega arith, (omega arith, (laid.4, (laid.5, tt)))))))))))
+    let w = c.write_message.ensures in
+    let laid = more s m c.write_message.new.memory.items ok w.items in
+    let bytes : Bytes c.write_message.new.memory.items = rw w.items (bytes_over s.memory.items s.used (message_record m) s.bytes w.bytes) in
+    record {
+      large = omega arith;
+      small = omega arith;
+      indexed = omega arith;
+      within = omega arith;
+      bytes = bytes;
+      rising = laid.0;
+      last = laid.1;
+      placed = omega arith;
+      byte = omega arith;
+      silent = laid.4;
+      form = laid.5;
+    }
 
 pub returns : goal.returns
 returns c =
@@ -53,10 +64,10 @@ returns c =
     let mem = s.memory.items in
     let ends = s.ends.items in
     let e = s.used + 4 + length m in
-    let ok = sym c.would-take.ensures ∙ c.in-ok-would-take.was in
+    let ok = sym c.would_take.ensures ∙ c.in_ok-would_take.was in
     let f = fit s m ok in
-    let is = c.write-message.ensures.items in
-    let mem' = c.write-message.new.memory.items in
+    let is = c.write_message.ensures.items in
+    let mem' = c.write_message.new.memory.items in
     let w = wrote_record mem mem' m s.used is (omega arith) in
     let list = parts_set 5 4 ends s.count s.used (length m) e f.2 s.rising s.last refl mem mem' m refl w.0 (body_is mem' m s.used e w.1 refl) in
     let long : length mem' ≡ length mem = ap length is ∙ length_over mem s.used (message_record m) (omega arith) in
