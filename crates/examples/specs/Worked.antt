@@ -1,6 +1,6 @@
 -- The worked examples of every layer in one list.
 use Rattle.std.specs.Prelude.{◌≡◌, List, ◌++◌, map}
-use Rattle.std.specs.List.{AllByRecursion as All}
+use Rattle.std.specs.List.{AllByRecursion}
 use Rattle.packet.specs.Decoding.{decode}
 use Rattle.packet.specs.Examples as packets
 use Rattle.journal.specs.Examples as journals
@@ -19,4 +19,4 @@ abbrev pub worked : List Worked
 worked = map packet packets.examples ++ map journal journals.examples
 
 abbrev pub WorkedExamplesHold : Type 0
-WorkedExamplesHold = All Holds worked
+WorkedExamplesHold = AllByRecursion Holds worked
