@@ -1,19 +1,19 @@
 -- The steps of an explainer, each as a run that goes on.
-use Rattle.std.proofs.Common.{◌≡◌, ℕ, ◌+◌, ◌-◌, ◌^◌, ◌<◌, ◌≤◌, min, List, [], ◌∷◌, ◌++◌, length, take, drop, replicate, Some, None, Ok, Err, Option, Result, sym, refl, ap, ◌∙◌, subst, arith, length-append, length-drop}
+use Rattle.std.proofs.Common.{◌≡◌, ℕ, ◌+◌, ◌-◌, ◌^◌, ◌<◌, ◌≤◌, min, List, [], ◌∷◌, ◌++◌, length, drop, replicate, Some, None, Ok, Err, Option, Result, sym, refl, ap, ◌∙◌, subst, arith, length-append, length-drop}
 use Rattle.std.specs.List.{flat_map}
-use Rattle.std.proofs.lemmas.List.{append-nil, take_all, take-append-drop, flat_map_more, nil_from_length}
+use Rattle.std.proofs.lemmas.List.{append-nil, take_all, take-append-drop, flat_map_more}
 use Rattle.std.specs.declared.io.Error.{Error}
 use Rattle.fault.specs.declared.faults.Fault.{Fault}
 use Rattle.fault.specs.declared.faults.Fault.TheVariants as F
 use Rattle.packet.specs.Values.{Value, encode, letter}
-use Rattle.packet.specs.Decoding.{part, whole, decode}
+use Rattle.packet.specs.Decoding.{decode}
 use Rattle.capture.specs.Finding.{Part, PacketAt, Tells}
 use Rattle.capture.specs.Runs.{Run, start, came, told}
 use Rattle.capture.specs.Tallies.{raised}
 use Rattle.capture.specs.Windows.{Grown}
 use Rattle.capture.specs.declared.endings.Ending.{Ending}
 use Rattle.capture.specs.declared.endings.Ending.TheVariants as E
-use Rattle.explaining.specs.Explained.{Knows, Went, Answers, Turned, More, Ends, Fresh, Reached, Explained, tallied, progress}
+use Rattle.explaining.specs.Explained.{Knows, Went, Answers, Turned, More, Ends, Fresh, Reached, Explained, tallied}
 
 told_fault : (held : List ℕ) (fault : Fault) → Tells held (Err fault) → Ends held (E.Fault fault)
 told_fault held (F.Packet fault) e = e

@@ -11,4 +11,4 @@ pub returns : goal.returns
 returns c =
     All-append Holds (map packet packets.examples) (map journal journals.examples)
     (lift packet (λ (x : packets.Example). decode x.bytes ≡ x.says) (λ x h. h) packets.examples c.examples_hold.ensures)
-    (lift journal journals.Holds (λ x h. h) journals.examples (each journals.examples c.examples-hold-2.ensures))
+    (lift journal journals.Holds (λ x h. h) journals.examples (each journals.examples c.examples_hold-2.ensures))

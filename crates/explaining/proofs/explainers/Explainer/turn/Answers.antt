@@ -1,9 +1,8 @@
-use Rattle.std.proofs.Common.{◌≡◌, ℕ, List, Ok, Err, sym, ap, ◌∙◌, subst}
+use Rattle.std.proofs.Common.{ℕ, List, Ok, Err, ap, ◌∙◌, subst}
 use Rattle.std.proofs.lemmas.Result.{err_from_is_err_and}
-use Rattle.layout.specs.declared.letters.Letter.{Letter}
 use Rattle.packet.specs.Meanings.{value_of}
 use Rattle.capture.specs.declared.tallies.Tally.{Tally}
-use Rattle.capture.specs.Finding.{Part, PacketAt, Tells}
+use Rattle.capture.specs.Finding.{Tells}
 use Rattle.capture.specs.Tallies.{raised}
 use Rattle.explaining.proofs.Turns.{turned_fault, turned_error, turned_more, turned_told}
 use Rattle.explaining.proofs.explainers.Explainer.turn.Goals as goal
