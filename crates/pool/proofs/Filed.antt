@@ -88,7 +88,7 @@ room_filed s pool at gap size places n r w f = omega (arith, taken_parts pool at
 -- how such a log judges a message
 pub takes_filed : (s : ℕ) (pool : List ℕ) (at : ℕ → ℕ) (gap size places n free left b : ℕ) → Rising at gap n → at n ≤ length pool → size + at 0 ≡ length pool → free ≡ length pool - at n → left ≡ places - n → verdict s free left gap b ≡ takes (filed s pool at gap size places n) b
 takes_filed s pool at gap size places n free left b r w f is rest =
-    let room-is = room_filed s pool at gap size places n r w f in
+    let room_is = room_filed s pool at gap size places n r w f in
     let long = length_parts pool at gap n in
     let free' : free ≡ room (filed s pool at gap size places n) = omega arith in
     let left' : left ≡ places - length (parts pool at gap n) = omega arith in
