@@ -3,11 +3,13 @@ ghost use Rattle.any_line.specs.declared.any.AnyLine.TheVariants as K;
 ghost use Rattle.paced.specs.Pacing.{paced_view};
 ghost use Rattle.ring.specs.contracts.rings.RingLine.TheImpl.{ghosts as ring_line};
 ghost use Rattle.straight.specs.contracts.straights.StraightLine.TheImpl.{ghosts as straight_line};
+ghost use Rattle.ring.specs.Views.{ring_within};
+ghost use Rattle.straight.specs.Views.{straight_within};
 ghost use Rattle.paced.specs.Views.{paced_sound};
 ghost use Rattle.any_line.specs.Kinds.{of_ring, of_straight};
 
 use fault::Refusal;
-use line::Line;
+use line::{Line, SteadyLine};
 use paced::Paced;
 use ring::Ring;
 use straight::Straight;
@@ -75,4 +77,13 @@ impl Line for AnyLine {
             AnyLine::PacedStraight(line) => line.clear(),
         }
     }
+}
+
+impl SteadyLine for AnyLine {
+    ghost within = { elim [
+      | K.Ring s ↦ ring_within s.bytes.items s.bytes.len s.start s.count
+      | K.Straight s ↦ straight_within s.bytes.items s.bytes.len s.start s.end
+      | K.PacedRing s ↦ ring_within s.line.bytes.items s.line.bytes.len s.line.start s.line.count
+      | K.PacedStraight s ↦ straight_within s.line.bytes.items s.line.bytes.len s.line.start s.line.end
+    ] };
 }

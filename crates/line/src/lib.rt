@@ -13,6 +13,6 @@ pub mod lines;
 pub mod making;
 pub mod transfers;
 
-pub use lines::Line;
+pub use lines::{Line, SteadyLine};
 pub use making::{LARGEST_SIZE, SMALLEST_SIZE, is_line_size};
 pub use transfers::transfer;

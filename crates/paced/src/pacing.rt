@@ -6,7 +6,7 @@ ghost use Rattle.paced.specs.Views.{paced_sound};
 
 use fault::{Refusal, Unmade};
 use layout::PACKET_LIMIT;
-use line::Line;
+use line::{Line, SteadyLine};
 
 /// The largest number that a layer paces by: the longest packet.
 pub const LARGEST_PACE: usize = PACKET_LIMIT;
@@ -60,4 +60,8 @@ impl<L: Line> Line for Paced<L> {
     fn clear(&mut self) {
         self.line.clear();
     }
+}
+
+impl<L: SteadyLine> SteadyLine for Paced<L> {
+    ghost within = { λ s. L.SteadyLine.within s.line };
 }

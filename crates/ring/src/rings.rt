@@ -6,12 +6,12 @@ ghost use Rattle.line.specs.Making.{Makes};
 ghost use Rattle.line.specs.Sizes.{LineSize};
 ghost use Rattle.layout.specs.Limits.{packet_limit};
 ghost use Rattle.ring.specs.Rings.{InRing, ring_view};
-ghost use Rattle.ring.specs.Views.{ring_sound};
+ghost use Rattle.ring.specs.Views.{ring_sound, ring_within};
 
 use crate::places::{lay_round, onward, read_round};
 use fault::{Refusal, Unmade};
 use layout::PACKET_LIMIT;
-use line::{Line, is_line_size};
+use line::{Line, SteadyLine, is_line_size};
 
 /// A line whose memory is used round and round.
 #[derive(Drop)]
@@ -76,4 +76,8 @@ impl Line for Ring {
         self.start = 0;
         self.count = 0;
     }
+}
+
+impl SteadyLine for Ring {
+    ghost within = { λ s. ring_within s.bytes.items s.bytes.len s.start s.count };
 }

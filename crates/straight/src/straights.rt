@@ -6,10 +6,10 @@ ghost use Rattle.line.specs.Making.{Makes};
 ghost use Rattle.line.specs.Memory.{laid};
 ghost use Rattle.line.specs.Sizes.{LineSize};
 ghost use Rattle.straight.specs.Straights.{InOrder, straight_view};
-ghost use Rattle.straight.specs.Views.{straight_sound};
+ghost use Rattle.straight.specs.Views.{straight_sound, straight_within};
 
 use fault::{Refusal, Unmade};
-use line::{Line, is_line_size};
+use line::{Line, SteadyLine, is_line_size};
 
 /// A line whose memory is used from the front, and anew once nothing waits.
 #[derive(Drop)]
@@ -87,4 +87,8 @@ impl Line for Straight {
         self.start = 0;
         self.end = 0;
     }
+}
+
+impl SteadyLine for Straight {
+    ghost within = { λ s. straight_within s.bytes.items s.bytes.len s.start s.end };
 }
