@@ -5,12 +5,12 @@ ghost use Rattle.rules.specs.Frames.{lack};
 ghost use Rattle.framing.specs.Filling.{Filled, wanted};
 
 use layout::PACKET_LIMIT;
-use line::Line;
+use line::SteadyLine;
 
 /// Takes once from the line, at most what the frame still lacks, and says how many bytes came. The frame is the
 /// first `held` bytes of its buffer, and what comes is laid behind it. Where the buffer could not hold the longest
 /// packet, or more than that is held, nothing is taken.
-pub fn fill<L: Line>(line: &mut L, frame: &mut [u8], held: usize) -> usize
+pub fn fill<L: SteadyLine>(line: &mut L, frame: &mut [u8], held: usize) -> usize
     ensures { Filled (L.Line.view line.old) frame.old held (wanted held frame.old) result (L.Line.view line.new) frame.new }
 {
     if frame.len() < PACKET_LIMIT {
@@ -38,7 +38,7 @@ fn lacking(frame: &[u8], held: usize) -> usize
 }
 
 // Takes into the places from `from` to `end`.
-fn take_at<L: Line>(line: &mut L, frame: &mut [u8], from: usize, end: usize) -> usize
+fn take_at<L: SteadyLine>(line: &mut L, frame: &mut [u8], from: usize, end: usize) -> usize
     requires { (from ≤ end) × (end ≤ length frame.old) }
     ensures { Filled (L.Line.view line.old) frame.old from (end - from) result (L.Line.view line.new) frame.new }
 {

@@ -1,9 +1,9 @@
 -- What the calls that are neither a receive nor a send come to.
-use Rattle.std.proofs.Common.{◌≡◌, ℕ, ◌+◌, ◌^◌, ◌<◌, ◌≤◌, Bool, true, false, cond, ◌&&◌, eqb, ltb, leb, List, [], ◌∷◌, ◌++◌, length, Ok, Err, Result, sym, refl, ap, ◌∙◌, subst, arith, length-append}
+use Rattle.std.proofs.Common.{◌≡◌, ℕ, ◌^◌, ◌<◌, ◌≤◌, Bool, true, false, cond, ◌&&◌, eqb, leb, List, [], length, Ok, Err, sym, refl, ap, ◌∙◌, arith, length-append}
 use Rattle.std.proofs.lemmas.Bool.{cond-true, cond-false, le-ltb, le-leb}
 use Rattle.fault.specs.declared.refusals.Refusal.{Refusal}
 use Rattle.fault.specs.declared.refusals.Refusal.TheVariants.{NoSession, NothingToFetch}
-use Rattle.layout.specs.Limits.{message_limit, packet_limit}
+use Rattle.layout.specs.Limits.{message_limit}
 use Rattle.layout.specs.Letters.{allowed}
 use Rattle.layout.specs.declared.letters.Letter.TheVariants as L
 use Rattle.layout.specs.declared.logouts.LogoutReason.TheVariants as X
@@ -15,9 +15,8 @@ use Rattle.message_log.specs.Meaning.{Meaning, count}
 use Rattle.account.specs.Logins.{spoken_version}
 use Rattle.rules.specs.declared.phases.How.{How}
 use Rattle.rules.specs.declared.phases.How.TheVariants.{Join, Anew, Fetch}
-use Rattle.rules.specs.declared.phases.SeatPhase.{SeatPhase}
 use Rattle.rules.specs.declared.phases.SeatPhase.TheVariants.{Apart, Live}
-use Rattle.rules.specs.State.{Account, Pair, Outcome}
+use Rattle.rules.specs.State.{Account, Pair}
 use Rattle.rules.specs.Changes.{refuses, with_seat, seat_to, seat_tells, seat_writes}
 use Rattle.rules.specs.Calls.{Done, done, connect, connected, asking, asked_session, asked_number, is_live, leave}
 use Rattle.rules.specs.Rounds.{too_short}

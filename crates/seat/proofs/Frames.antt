@@ -1,10 +1,10 @@
 -- A frame that was filled, and what a receive comes to by what is said of it.
-use Rattle.std.proofs.Common.{◌≡◌, ℕ, ◌+◌, ◌-◌, ◌<◌, ◌≤◌, min, Bool, true, false, cond, ◌&&◌, ltb, leb, List, [], ◌∷◌, ◌++◌, length, take, drop, Ok, Err, Result, sym, refl, ap, ◌∙◌, subst, ⊎_elim, append_assoc, arith, length-append, length-drop, length-take}
+use Rattle.std.proofs.Common.{◌≡◌, ℕ, ◌+◌, ◌-◌, ◌<◌, ◌≤◌, min, Bool, true, false, ◌&&◌, leb, List, [], ◌∷◌, ◌++◌, length, take, drop, Ok, Err, Result, sym, refl, ap, ◌∙◌, subst, ⊎_elim, append_assoc, arith, length-append, length-drop, length-take}
 use Rattle.std.proofs.lemmas.List.{take_at, take-append-drop}
 use Rattle.std.proofs.lemmas.Bool.{cond-true, cond-false, cases_lt, le-ltb, le-leb, lt-leb, and_from}
 use Rattle.fault.specs.declared.faults.PacketFault.{PacketFault}
 use Rattle.layout.specs.Limits.{packet_limit}
-use Rattle.packet.specs.Decoding.{Answer, part, whole, head_number}
+use Rattle.packet.specs.Decoding.{Answer, part, whole}
 use Rattle.line.specs.Lines.{LineView, handed}
 use Rattle.line.specs.Memory.{laid}
 use Rattle.message_log.specs.Meaning.{Meaning}

@@ -3,7 +3,7 @@ use Rattle.std.specs.Prelude.{ℕ, cond, List}
 use Rattle.fault.specs.declared.refusals.Refusal.TheVariants.{ShortBuffer}
 use Rattle.account.specs.declared.fields.Account.{Account}
 use Rattle.rules.specs.declared.phases.How.{How}
-use Rattle.rules.specs.State.{Account as Fields, Pair, Outcome}
+use Rattle.rules.specs.State.{Account as Fields, Pair}
 use Rattle.rules.specs.Changes.{refuses}
 use Rattle.rules.specs.Calls.{Done, connect, say}
 use Rattle.rules.specs.Rounds.{Say, lent_short}

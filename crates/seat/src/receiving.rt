@@ -13,7 +13,7 @@ use crate::seats::Seat;
 use fault::{Fault, LogFault, Refusal};
 use framing::{fill, judge};
 use layout::{LogoutReason, PACKET_LIMIT};
-use line::Line;
+use line::{Line, SteadyLine};
 use message_log::Log;
 use packet::Read;
 use rules::Received;
@@ -22,7 +22,7 @@ impl Seat {
     /// Takes once from the down line, and acts on the packet if that makes one whole. Refuses by `ShortBuffer` and,
     /// where there is no connection, by `WrongPhase`, with nothing changed. A bad packet, and a log that refuses the
     /// next message, end the connection: the hub is told so if the up line has the room.
-    pub fn receive<G: Log, U: Line, D: Line>(
+    pub fn receive<G: Log, U: Line, D: SteadyLine>(
         &mut self,
         log: &mut G,
         up: &mut U,
@@ -55,7 +55,7 @@ impl Seat {
     }
 
     // Takes once, and acts on a packet that is whole. After a fault the frame is empty.
-    fn hear<G: Log, D: Line>(
+    fn hear<G: Log, D: SteadyLine>(
         &mut self,
         log: &mut G,
         down: &mut D,

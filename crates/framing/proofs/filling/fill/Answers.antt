@@ -5,13 +5,13 @@ use Rattle.framing.specs.Filling.{Filled, wanted}
 use Rattle.framing.proofs.Takes.{untaken}
 use Rattle.framing.proofs.filling.fill.Goals as goal
 
-pub returns-then-frame-lt-PACKET-LIMIT : goal.returns-then-frame-lt-PACKET-LIMIT
-returns-then-frame-lt-PACKET-LIMIT g c =
-    untaken (g.L.Line.view c.args.line.now) c.args.frame.now c.args.held _ (g.met.L.Line.sound c.args.line.now) (search rules)
+pub returns-then-frame-lt-PACKET_LIMIT : goal.returns-then-frame-lt-PACKET_LIMIT
+returns-then-frame-lt-PACKET_LIMIT g c =
+    untaken (g.L.Line.view c.args.line.now) c.args.frame.now c.args.held _ (g.met.L.Line.sound c.args.line.now) (g.met.L.SteadyLine.within c.args.line.now) (search rules)
 
-pub returns-then-held-gt-PACKET-LIMIT : goal.returns-then-held-gt-PACKET-LIMIT
-returns-then-held-gt-PACKET-LIMIT g c =
-    untaken (g.L.Line.view c.args.line.now) c.args.frame.now c.args.held _ (g.met.L.Line.sound c.args.line.now) (search rules)
+pub returns-then-held-gt-PACKET_LIMIT : goal.returns-then-held-gt-PACKET_LIMIT
+returns-then-held-gt-PACKET_LIMIT g c =
+    untaken (g.L.Line.view c.args.line.now) c.args.frame.now c.args.held _ (g.met.L.Line.sound c.args.line.now) (g.met.L.SteadyLine.within c.args.line.now) (search rules)
 
 pub returns : goal.returns
 returns g c =

@@ -1,4 +1,3 @@
-use Rattle.std.proofs.Common.{rules}
 use Rattle.framing.proofs.posting.head.Goals as goal
 
 pub returns : goal.returns

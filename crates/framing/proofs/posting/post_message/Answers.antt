@@ -1,4 +1,4 @@
-use Rattle.std.proofs.Common.{◌≡◌, ℕ, ◌+◌, ◌-◌, ◌≤◌, ◌++◌, length, drop, sym, refl, ap, ◌∙◌, arith, rules}
+use Rattle.std.proofs.Common.{◌≡◌, ℕ, ◌+◌, ◌-◌, ◌++◌, length, drop, sym, ap, ◌∙◌, arith}
 use Rattle.message_log.specs.Meaning.{nth}
 use Rattle.packet.specs.Values.{sequenced, encode}
 use Rattle.std.proofs.lemmas.Bool.{cond-false}

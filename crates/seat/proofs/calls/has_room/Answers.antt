@@ -1,4 +1,4 @@
-use Rattle.std.proofs.Common.{◌≡◌, ℕ, leb, length, sym, ap, ◌∙◌}
+use Rattle.std.proofs.Common.{ℕ, leb, length, sym, ap, ◌∙◌}
 use Rattle.packet.specs.Meanings.{value_of}
 use Rattle.packet.specs.Values.{encode}
 use Rattle.packet.proofs.Back.{length_encode}

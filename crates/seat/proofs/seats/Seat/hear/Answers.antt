@@ -1,10 +1,8 @@
-use Rattle.std.proofs.Common.{◌≡◌, ℕ, ◌+◌, ◌-◌, List, take, Ok, Err, Result, sym, refl, ap, ◌∙◌}
+use Rattle.std.proofs.Common.{◌+◌, ◌-◌, List, take, Ok, Err, Result, sym, ap, ◌∙◌}
 use Rattle.std.proofs.lemmas.Result.{err_from_is_err_and}
 use Rattle.fault.specs.declared.faults.Fault.{Fault}
-use Rattle.fault.specs.declared.faults.PacketFault.{PacketFault}
 use Rattle.layout.specs.declared.letters.Letter.{Letter}
 use Rattle.packet.specs.declared.reading.Read.{Read}
-use Rattle.packet.specs.declared.reading.Read.TheVariants.{Part, Whole}
 use Rattle.packet.specs.Decoding.{part, whole}
 use Rattle.packet.specs.Meanings.{answer_of, value_of}
 use Rattle.rules.specs.declared.answers.Received.{Received}
