@@ -13,7 +13,7 @@ use Rattle.rules.specs.Calls.{done, connected, asked, asked_number, fetch_end}
 use Rattle.rules.specs.Rounds.{Call, Connect, Round, lent_short, Deed, did}
 use Rattle.promises.specs.Runs.{Begins, Note, World, Run, GrantedRounds, SetUp, History}
 
--- Set-up, of logs and lines that keep their laws, makes a pair of which the promises speak.
+-- Set-up, of logs that keep their law and of steady lines, makes a pair of which the promises speak.
 abbrev pub SetUpBegins : Type 0
 SetUpBegins = (g : Parts) (s : Pair) → Log.Sound g.hub_log → Log.Sound g.seat_log → Line.Steady g.up → Line.Steady g.down → set_up g ≡ Ok s → SetUp s
 

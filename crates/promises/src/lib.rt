@@ -34,7 +34,7 @@ pub fn in_step_is_true()
     ensures { InStepIsTrue Step }
 {}
 
-/// Set-up, of logs and lines that keep their laws, makes a pair of which the promises speak.
+/// Set-up, of logs that keep their law and of steady lines, makes a pair of which the promises speak.
 pub fn set_up_begins_a_history()
     ensures { SetUpBegins }
 {}

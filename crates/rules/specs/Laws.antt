@@ -12,7 +12,7 @@ use Rattle.rules.specs.Frames.{lack}
 use Rattle.rules.specs.Roomiest.{roomiest}
 use Rattle.rules.specs.Rounds.{HubReceives, hub_deaf, hub_hears_bytes, SeatReceives, seat_deaf, seat_hears_bytes, going, onward, Drains, ends, more, Call, Round, Went, too_short, lent_short, Deed, Step, short_buffer, connects, cuts, publishes, finishes, rolls, tells, says, leaves, hub_receives, seat_receives, hub_sends_one, seat_sends_one, ticks, rounds}
 
--- Every line is sound by its own law, so the rules need an answer for such pairs alone.
+-- Each kind of line is steady by its own laws, so the rules need an answer for such pairs alone.
 pub record Lined (s : Pair) : Type 0 where
   pub up : Steady s.up
   pub down : Steady s.down
