@@ -1,10 +1,9 @@
 //! The enum over the kinds, and how it is a line.
+ghost use Rattle.std.proofs.Math.Nat.{sub-le};
 ghost use Rattle.any_line.specs.declared.any.AnyLine.TheVariants as K;
 ghost use Rattle.paced.specs.Pacing.{paced_view};
 ghost use Rattle.ring.specs.contracts.rings.RingLine.TheImpl.{ghosts as ring_line};
 ghost use Rattle.straight.specs.contracts.straights.StraightLine.TheImpl.{ghosts as straight_line};
-ghost use Rattle.ring.specs.Views.{ring_within};
-ghost use Rattle.straight.specs.Views.{straight_within};
 ghost use Rattle.paced.specs.Views.{paced_sound};
 ghost use Rattle.any_line.specs.Kinds.{of_ring, of_straight};
 
@@ -81,9 +80,9 @@ impl Line for AnyLine {
 
 impl SteadyLine for AnyLine {
     ghost within = { elim [
-      | K.Ring s ↦ ring_within s.bytes.items s.bytes.len s.start s.count
-      | K.Straight s ↦ straight_within s.bytes.items s.bytes.len s.start s.end
-      | K.PacedRing s ↦ ring_within s.line.bytes.items s.line.bytes.len s.line.start s.line.count
-      | K.PacedStraight s ↦ straight_within s.line.bytes.items s.line.bytes.len s.line.start s.line.end
+      | K.Ring s ↦ sub-le s.bytes.len s.count
+      | K.Straight s ↦ sub-le s.bytes.len s.end
+      | K.PacedRing s ↦ sub-le s.line.bytes.len s.line.count
+      | K.PacedStraight s ↦ sub-le s.line.bytes.len s.line.end
     ] };
 }

@@ -490,10 +490,10 @@ catches_up b n s t how i tr ul dl ab rs =
     let front : Begins l.messages k.messages = cond_both (eqb s.held.session x) s.held (begun s.held x) (λ (z : Meaning). Begins z.messages k.messages)
     (λ q. subst (λ z. Begins s.held.messages z) (ap b.lists (eqb-true s.held.session x q) ∙ i.kept) i.held) (λ q. (k.messages, refl)) in
     let lf = begins_length l.messages k.messages front in
-    let on : HubOn (its_login (view c)) c c = record { phase = refl; stream = sym (append-nil (encode (its_login (view c)))); short = sesm.some (its_login (view c)); limit = ul.some; rows = refl; running = refl; held = refl; seat = refl; down = refl } in
-    let of : Off F c = record { frame = refl; dry = refl; room = refl; full = refl; limit = dl.some } in
+    let on : HubOn (its_login (view c)) c c = record { phase = refl; stream = sym (append-nil (encode (its_login (view c)))); short = sesm.some (its_login (view c)); limit = ul.sound.some; rows = refl; running = refl; held = refl; seat = refl; down = refl } in
+    let of : Off F c = record { frame = refl; dry = refl; room = refl; full = refl; limit = dl.sound.some } in
     let few : h ≤ size_limit = omega (arith, i.few, i.places) in
-    let wide : packet_limit ≤ F = dl.size.0 in
+    let wide : packet_limit ≤ F = dl.sound.size.0 in
     let fs = split rs (h + 1 - nu) (omega arith) in
     let ho = login_drains c s.account.user s.account.computer s.account.protocol aq nu va ab.accepted fs.does.hub_drains on in
     let fr = first_round F c aq nu wide i.small few (suits_ok aq x i.begun ss) c fs.report fs.wrote fs.mid refl refl refl ab.no_fetch refl of fs.does ho in

@@ -47,6 +47,3 @@ module _ (places : List ℕ) (size start count : ℕ) (long : length places ≡ 
         full = refl;
         limit = refl;
       }
-
-pub ring_within : (places : List ℕ) (size start count : ℕ) → (ring_view places size start count).room ≤ (ring_view places size start count).full
-ring_within places size start count = omega arith

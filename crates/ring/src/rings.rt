@@ -1,12 +1,13 @@
 //! The ring, and how it is a line.
 ghost use Rattle.std.specs.Prelude.{◌≡◌, vec_len};
 ghost use Rattle.std.proofs.Common.{sym};
+ghost use Rattle.std.proofs.Math.Nat.{sub-le};
 ghost use Rattle.line.specs.Lines.{fresh};
 ghost use Rattle.line.specs.Making.{Makes};
 ghost use Rattle.line.specs.Sizes.{LineSize};
 ghost use Rattle.layout.specs.Limits.{packet_limit};
 ghost use Rattle.ring.specs.Rings.{InRing, ring_view};
-ghost use Rattle.ring.specs.Views.{ring_sound, ring_within};
+ghost use Rattle.ring.specs.Views.{ring_sound};
 
 use crate::places::{lay_round, onward, read_round};
 use fault::{Refusal, Unmade};
@@ -79,5 +80,5 @@ impl Line for Ring {
 }
 
 impl SteadyLine for Ring {
-    ghost within = { λ s. ring_within s.bytes.items s.bytes.len s.start s.count };
+    ghost within = { λ s. sub-le s.bytes.len s.count };
 }

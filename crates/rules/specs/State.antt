@@ -1,9 +1,8 @@
 -- The state of a pair, by meanings alone.
-use Rattle.std.specs.Prelude.{◌≡◌, ℕ, ◌≤◌, Bool, List, [], Option, Result}
+use Rattle.std.specs.Prelude.{ℕ, ◌≤◌, Bool, List, Option, Result}
 use Rattle.fault.specs.declared.refusals.Refusal.{Refusal}
 use Rattle.layout.specs.declared.statuses.Status.{Status}
-use Rattle.line.specs.Sizes.{LineSize}
-use Rattle.line.specs.Lines.{LineView}
+use Rattle.line.specs.Lines.{LineView, Sound}
 use Rattle.message_log.specs.Meaning.{Meaning}
 use Rattle.account.specs.declared.rows.Row.{Row}
 pub use Rattle.account.specs.declared.fields.Account.{Account}
@@ -13,10 +12,8 @@ use Rattle.rules.specs.declared.phases.SeatPhase.{SeatPhase}
 -- What holds of a pair's line at all times: what holds of every line, and that its room is never more than its full
 -- size.
 pub record Steady (v : LineView) : Type 0 where
-  pub empty : v.waiting ≡ [] → v.room ≡ v.full
+  pub sound : Sound v
   pub within : v.room ≤ v.full
-  pub size : LineSize v.full
-  pub some : 1 ≤ v.limit
 
 -- What belongs to the hub's session, whoever is connected: its log, and whether publishing is finished.
 pub record Running : Type 0 where

@@ -59,6 +59,3 @@ module _ (places : List ℕ) (size start end : ℕ) (long : length places ≡ si
         full = f;
         limit = l;
       }
-
-pub straight_within : (places : List ℕ) (size start end : ℕ) → (straight_view places size start end).room ≤ (straight_view places size start end).full
-straight_within places size start end = omega arith

@@ -1,12 +1,13 @@
 //! The straight line, and how it is a line.
 ghost use Rattle.std.specs.Prelude.{◌≡◌, ◌+◌, ◌≤◌, length, vec_len};
 ghost use Rattle.std.proofs.Common.{sym};
+ghost use Rattle.std.proofs.Math.Nat.{sub-le};
 ghost use Rattle.line.specs.Lines.{fresh};
 ghost use Rattle.line.specs.Making.{Makes};
 ghost use Rattle.line.specs.Memory.{laid};
 ghost use Rattle.line.specs.Sizes.{LineSize};
 ghost use Rattle.straight.specs.Straights.{InOrder, straight_view};
-ghost use Rattle.straight.specs.Views.{straight_sound, straight_within};
+ghost use Rattle.straight.specs.Views.{straight_sound};
 
 use fault::{Refusal, Unmade};
 use line::{Line, SteadyLine, is_line_size};
@@ -90,5 +91,5 @@ impl Line for Straight {
 }
 
 impl SteadyLine for Straight {
-    ghost within = { λ s. straight_within s.bytes.items s.bytes.len s.start s.end };
+    ghost within = { λ s. sub-le s.bytes.len s.end };
 }
