@@ -6,7 +6,7 @@ use Rattle.std.proofs.lemmas.Bool.{le-ltb, or_from}
 use Rattle.layout.specs.Limits.{packet_limit}
 use Rattle.packet.specs.Values.{Value, encode}
 use Rattle.line.specs.Lines.{handed}
-use Rattle.line.specs.Memory.{laid}
+use Rattle.memory.specs.Memory.{laid}
 use Rattle.message_log.specs.Calls.{fronted}
 use Rattle.rules.specs.declared.phases.How.{How}
 use Rattle.rules.specs.State.{Buffers, Pair}

@@ -4,6 +4,7 @@ ghost use Rattle.fault.specs.Faults.{field_place, packet_cause, packet_place, lo
 ghost use Rattle.fault.specs.declared.faults.Fault.TheVariants as F;
 
 use std::fmt;
+use thiserror::Error;
 
 /// A field of a packet that can have a wrong content.
 #[derive(Clone, Copy, PartialEq, Eq, Debug)]
@@ -23,26 +24,33 @@ pub enum Field {
 }
 
 /// What is wrong with a packet.
-#[derive(Clone, Copy, PartialEq, Eq, Debug)]
+#[derive(Clone, Copy, PartialEq, Eq, Debug, Error)]
 pub enum PacketFault {
     /// The length number is 0.
+    #[error("the length number is 0")]
     LengthZero,
     /// The length number is over the largest one.
+    #[error("the length number is over the largest one")]
     LengthOverLimit,
     /// No packet has this letter.
+    #[error("no packet has this letter")]
     UnknownLetter,
     /// The letter is not for this end, or not for its phase.
+    #[error("the letter is not for this end or its phase")]
     OutOfPlace,
     /// The letter does not have this length.
+    #[error("the length is wrong for the letter")]
     WrongLength,
     /// A field holds what it must not hold.
+    #[error("the {0} is not one that is listed")]
     WrongContent(Field),
 }
 
 /// What is wrong with a log.
-#[derive(Clone, Copy)]
+#[derive(Clone, Copy, PartialEq, Eq, Debug, Error)]
 pub enum LogFault {
     /// It has no room or no place for one message more.
+    #[error("the log is full")]
     Full,
 }
 
@@ -54,9 +62,11 @@ pub enum Layer {
 }
 
 /// A fault of either layer.
-#[derive(Clone, Copy)]
+#[derive(Clone, Copy, PartialEq, Eq, Debug, Error)]
 pub enum Fault {
+    #[error(transparent)]
     Packet(PacketFault),
+    #[error(transparent)]
     Log(LogFault),
 }
 
@@ -181,43 +191,11 @@ impl fmt::Display for Field {
     }
 }
 
-impl fmt::Display for PacketFault {
-    fn fmt<W: fmt::Write>(&self, f: &mut fmt::Formatter<W>) -> fmt::Result {
-        match self {
-            PacketFault::LengthZero => f.write_str("the length number is 0"),
-            PacketFault::LengthOverLimit => f.write_str(
-                "the length number is over the largest one",
-            ),
-            PacketFault::UnknownLetter => f.write_str("no packet has this letter"),
-            PacketFault::OutOfPlace => f.write_str("the letter is not for this end or its phase"),
-            PacketFault::WrongLength => f.write_str("the length is wrong for the letter"),
-            PacketFault::WrongContent(field) => write!(f, "the {field} is not one that is listed"),
-        }
-    }
-}
-
-impl fmt::Display for LogFault {
-    fn fmt<W: fmt::Write>(&self, f: &mut fmt::Formatter<W>) -> fmt::Result {
-        f.write_str(match self {
-            LogFault::Full => "the log is full",
-        })
-    }
-}
-
 impl fmt::Display for Layer {
     fn fmt<W: fmt::Write>(&self, f: &mut fmt::Formatter<W>) -> fmt::Result {
         f.write_str(match self {
             Layer::Packet => "packet",
             Layer::Log => "log",
         })
-    }
-}
-
-impl fmt::Display for Fault {
-    fn fmt<W: fmt::Write>(&self, f: &mut fmt::Formatter<W>) -> fmt::Result {
-        match self {
-            Fault::Packet(fault) => write!(f, "{fault}"),
-            Fault::Log(fault) => write!(f, "{fault}"),
-        }
     }
 }

@@ -4,47 +4,66 @@ ghost use Rattle.fault.specs.Refusals.{number};
 ghost use Rattle.fault.specs.declared.refusals.Refusal.TheVariants as R;
 
 use crate::faults::PacketFault;
-use std::fmt;
+use std::alloc::AllocError;
+use thiserror::Error;
 
 /// Why a call was refused. First what the call was given, then what it met, each in the order in which a
 /// call tells them.
-#[derive(Clone, Copy, PartialEq, Eq, Debug)]
+#[derive(Clone, Copy, PartialEq, Eq, Debug, Error)]
 pub enum Refusal {
     /// A message is longer than the longest one.
+    #[error("the message is too long")]
     MessageTooLong,
     /// Session 0 stands for no session and cannot be begun.
+    #[error("session 0 cannot be begun")]
     SessionZero,
     /// No message has this number.
+    #[error("no message has this number")]
     NoSuchMessage,
     /// A buffer is too short for what is to stand in it.
+    #[error("the buffer is too short")]
     ShortBuffer,
     /// A memory, a size or a count is outside what the rules allow.
+    #[error("a size is outside the rules")]
     SizeOutOfRange,
     /// An account's field is empty, too wide, or holds a byte that is no visible ASCII.
+    #[error("an account field is empty, too wide or not visible ASCII")]
     BadAccountField,
     /// A saved log is broken at the record that begins at this place.
+    #[error("the log is broken at place {0}")]
     BrokenLog(usize),
     /// A packet is faulty, or would be read back as another or as none.
+    #[error("bad packet: {0}")]
     BadPacket(PacketFault),
     /// The log has no room or no place for one message more.
+    #[error("the log is full")]
     LogFull,
     /// The line has no room for this.
+    #[error("the line lacks room")]
     LineFull,
     /// The end's phase does not allow the call.
+    #[error("wrong phase")]
     WrongPhase,
     /// The session is finished.
+    #[error("the session is finished")]
     SessionFinished,
     /// The hub is at work on a connection.
+    #[error("the hub is at work on a connection")]
     HubBusy,
     /// No session comes after the last one.
+    #[error("no session comes after the last one")]
     LastSession,
     /// The log bears no session.
+    #[error("the log bears no session")]
     NoSession,
     /// The end of a fetch is not above what the seat holds.
+    #[error("the end of the fetch is not above what is held")]
     NothingToFetch,
     /// The account table is full, or a row of it matches.
+    #[error("the account table is full or holds a row that matches")]
     AccountTaken,
     /// There was no memory for what the call makes.
+    #[error("no memory")]
     OutOfMemory,
 }
 
@@ -84,33 +103,11 @@ impl From<PacketFault> for Refusal {
     }
 }
 
-impl fmt::Display for Refusal {
-    fn fmt<W: fmt::Write>(&self, f: &mut fmt::Formatter<W>) -> fmt::Result {
-        match self {
-            Refusal::BrokenLog(place) => write!(f, "the log is broken at place {place}"),
-            Refusal::BadPacket(fault) => write!(f, "bad packet: {fault}"),
-            Refusal::MessageTooLong => f.write_str("the message is too long"),
-            Refusal::SessionZero => f.write_str("session 0 cannot be begun"),
-            Refusal::NoSuchMessage => f.write_str("no message has this number"),
-            Refusal::ShortBuffer => f.write_str("the buffer is too short"),
-            Refusal::SizeOutOfRange => f.write_str("a size is outside the rules"),
-            Refusal::BadAccountField => f.write_str(
-                "an account field is empty, too wide or not visible ASCII",
-            ),
-            Refusal::LogFull => f.write_str("the log is full"),
-            Refusal::LineFull => f.write_str("the line lacks room"),
-            Refusal::WrongPhase => f.write_str("wrong phase"),
-            Refusal::SessionFinished => f.write_str("the session is finished"),
-            Refusal::HubBusy => f.write_str("the hub is at work on a connection"),
-            Refusal::LastSession => f.write_str("no session comes after the last one"),
-            Refusal::NoSession => f.write_str("the log bears no session"),
-            Refusal::NothingToFetch => f.write_str(
-                "the end of the fetch is not above what is held",
-            ),
-            Refusal::AccountTaken => f.write_str(
-                "the account table is full or holds a row that matches",
-            ),
-            Refusal::OutOfMemory => f.write_str("no memory"),
-        }
+/// Lets `?` pass on a want of memory.
+impl From<AllocError> for Refusal {
+    ghost from_gives = { λ _ r. r ≡ R.OutOfMemory };
+
+    fn from(_error: AllocError) -> Refusal {
+        Refusal::OutOfMemory
     }
 }

@@ -1,5 +1,4 @@
 pub mod Sizes
 pub mod Lines
-pub mod Memory
 pub mod Making
 pub mod Transfers

@@ -2,7 +2,7 @@
 use Rattle.std.specs.Prelude.{◌≡◌, ℕ, ◌+◌, ◌-◌, ◌<◌, ◌≤◌, List, ◌++◌, length, take, drop}
 use Rattle.layout.specs.Limits.{packet_limit}
 use Rattle.line.specs.Lines.{LineView}
-use Rattle.line.specs.Memory.{laid}
+use Rattle.memory.specs.Memory.{laid}
 use Rattle.line.specs.Sizes.{LineSize}
 
 -- The places from `start` on, round the end: what a reader sees who goes along the memory twice.

@@ -6,7 +6,7 @@ use Rattle.std.proofs.Math.Seq.{take-append-add}
 use Rattle.std.proofs.lemmas.Bool.{cases_lt}
 use Rattle.std.proofs.lemmas.List.{drop-append-le, take-append-le, take-append-drop, take_at, drop_at, drop-drop, take_all, drop_all, drop-take}
 use Rattle.std.proofs.lemmas.Slice.{take-put_mid, drop-put_mid}
-use Rattle.line.specs.Memory.{laid}
+use Rattle.memory.specs.Memory.{laid}
 use Rattle.ring.specs.Rings.{Onward, LaidRound, ringed}
 
 module _ (xs : List ℕ) (start count : ℕ) (h : start ≤ length xs) where

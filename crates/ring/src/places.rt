@@ -1,6 +1,6 @@
 //! Copies to and from the places of a ring, each in at most two parts.
 ghost use Rattle.std.specs.Prelude.{◌≡◌, ◌+◌, ◌<◌, ◌≤◌, length};
-ghost use Rattle.line.specs.Memory.{laid};
+ghost use Rattle.memory.specs.Memory.{laid};
 ghost use Rattle.line.specs.Sizes.{largest_size};
 ghost use Rattle.ring.specs.Rings.{Onward, LaidRound, ringed};
 

@@ -9,7 +9,7 @@ use Rattle.packet.specs.Decoding.{Answer, part, whole, head_number, counted, bod
 use Rattle.packet.proofs.Forth.{counted_forth, took}
 use Rattle.packet.proofs.Fronts.{decode_short, decode_head}
 use Rattle.line.specs.Lines.{LineView, handed}
-use Rattle.line.specs.Memory.{laid}
+use Rattle.memory.specs.Memory.{laid}
 use Rattle.rules.specs.Frames.{lack, given, placed}
 use Rattle.rules.specs.Laws.{PartsLack}
 

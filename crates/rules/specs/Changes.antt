@@ -4,7 +4,7 @@ use Rattle.fault.specs.declared.refusals.Refusal.{Refusal}
 use Rattle.layout.specs.declared.statuses.Status.{Status}
 use Rattle.packet.specs.Values.{Value, encode}
 use Rattle.line.specs.Lines.{LineView, joined, cleared, fits}
-use Rattle.line.specs.Memory.{laid}
+use Rattle.memory.specs.Memory.{laid}
 use Rattle.message_log.specs.Meaning.{Meaning}
 use Rattle.message_log.specs.Calls.{fronted}
 use Rattle.account.specs.declared.rows.Row.{Row}

@@ -6,7 +6,7 @@ use Rattle.fault.specs.declared.faults.PacketFault.{PacketFault}
 use Rattle.layout.specs.Limits.{packet_limit}
 use Rattle.packet.specs.Decoding.{Answer, part, whole}
 use Rattle.line.specs.Lines.{LineView, handed}
-use Rattle.line.specs.Memory.{laid}
+use Rattle.memory.specs.Memory.{laid}
 use Rattle.message_log.specs.Meaning.{Meaning}
 use Rattle.framing.specs.Filling.{Filled, wanted}
 use Rattle.rules.specs.declared.phases.SeatPhase.{SeatPhase}

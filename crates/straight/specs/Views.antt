@@ -3,7 +3,7 @@ use Rattle.std.specs.Prelude.{◌≡◌, ℕ, suc, ◌+◌, ◌-◌, ◌<◌, �
 use Rattle.std.proofs.Common.{sym, ap, ◌∙◌, append_assoc, arith, length-drop, length-take, length-append}
 use Rattle.std.proofs.lemmas.List.{drop-append-le, take_at, drop_more, drop-set, drop-take}
 use Rattle.line.specs.Lines.{LineView, Sound, Put, Taken}
-use Rattle.line.specs.Memory.{laid}
+use Rattle.memory.specs.Memory.{laid}
 use Rattle.line.proofs.Takes.{same_view, put_granted}
 use Rattle.straight.specs.Straights.{InOrder, straight_view}
 

@@ -1,6 +1,6 @@
 use Rattle.std.proofs.Common.{◌≡◌, ◌-◌, length, take, drop, ap, ◌∙◌, arith}
 use Rattle.std.proofs.lemmas.List.{take_rest}
-use Rattle.line.specs.Memory.{laid}
+use Rattle.memory.specs.Memory.{laid}
 use Rattle.ring.proofs.places.lay_round.Goals as goal
 
 pub returns-else-piece-ahead : goal.returns-else-piece-ahead
