@@ -6,25 +6,29 @@ use fault::{Field, PacketFault};
 use std::fmt;
 
 /// Why a hub says GoodBye.
-#[derive(Clone, Copy)]
+#[derive(Clone, Copy, PartialEq, Eq, Debug)]
 pub enum GoodByeReason {
     BadPacket = b'B' as isize,
     LoginTimeout = b'L' as isize,
     Terminating = b'A' as isize,
 }
 
-impl GoodByeReason {
-    /// The reason as it stands in a packet.
-    pub fn byte(self) -> u8
-        ensures { result ≡ good_bye_byte self }
-    {
-        self as u8
-    }
+/// The reason as it stands in a packet.
+impl From<GoodByeReason> for u8 {
+    ghost from_gives = { λ reason b. b ≡ good_bye_byte reason };
 
-    /// The reason that is written by this byte.
-    pub fn from_byte(byte: u8) -> Result<GoodByeReason, PacketFault>
-        ensures { result ≡ good_bye_of byte }
-    {
+    fn from(reason: GoodByeReason) -> u8 {
+        reason as u8
+    }
+}
+
+/// The reason that a byte writes.
+impl TryFrom<u8> for GoodByeReason {
+    type Error = PacketFault;
+
+    ghost try_from_gives = { λ b r. r ≡ good_bye_of b };
+
+    fn try_from(byte: u8) -> Result<GoodByeReason, PacketFault> {
         match byte {
             b'B' => Ok(GoodByeReason::BadPacket),
             b'L' => Ok(GoodByeReason::LoginTimeout),

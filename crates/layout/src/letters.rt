@@ -7,7 +7,7 @@ use fault::PacketFault;
 use std::fmt;
 
 /// The letter of a packet, which says what the packet is.
-#[derive(Clone, Copy)]
+#[derive(Clone, Copy, PartialEq, Eq, Debug)]
 pub enum Letter {
     LoginRequest = b'L' as isize,
     LoginResponse = b'R' as isize,
@@ -39,18 +39,22 @@ pub const LETTERS: [Letter; 12] = [
     Letter::Test,
 ];
 
-impl Letter {
-    /// The letter as it stands in a packet.
-    pub fn byte(self) -> u8
-        ensures { result ≡ letter_byte self }
-    {
-        self as u8
-    }
+/// The letter as it stands in a packet.
+impl From<Letter> for u8 {
+    ghost from_gives = { λ letter b. b ≡ letter_byte letter };
 
-    /// The letter that is written by this byte.
-    pub fn from_byte(byte: u8) -> Result<Letter, PacketFault>
-        ensures { result ≡ letter_of byte }
-    {
+    fn from(letter: Letter) -> u8 {
+        letter as u8
+    }
+}
+
+/// The letter that a byte writes.
+impl TryFrom<u8> for Letter {
+    type Error = PacketFault;
+
+    ghost try_from_gives = { λ b r. r ≡ letter_of b };
+
+    fn try_from(byte: u8) -> Result<Letter, PacketFault> {
         match byte {
             b'L' => Ok(Letter::LoginRequest),
             b'R' => Ok(Letter::LoginResponse),
@@ -67,7 +71,9 @@ impl Letter {
             _ => Err(PacketFault::UnknownLetter),
         }
     }
+}
 
+impl Letter {
     /// The smallest length number of a packet with this letter.
     pub fn shortest(self) -> usize
         ensures { result ≡ shortest self }

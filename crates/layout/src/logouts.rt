@@ -6,7 +6,7 @@ use fault::{Field, PacketFault};
 use std::fmt;
 
 /// Why a seat logs out.
-#[derive(Clone, Copy)]
+#[derive(Clone, Copy, PartialEq, Eq, Debug)]
 pub enum LogoutReason {
     Done = b' ' as isize,
     BadPacket = b'B' as isize,
@@ -14,18 +14,22 @@ pub enum LogoutReason {
     Terminating = b'A' as isize,
 }
 
-impl LogoutReason {
-    /// The reason as it stands in a packet.
-    pub fn byte(self) -> u8
-        ensures { result ≡ logout_byte self }
-    {
-        self as u8
-    }
+/// The reason as it stands in a packet.
+impl From<LogoutReason> for u8 {
+    ghost from_gives = { λ reason b. b ≡ logout_byte reason };
 
-    /// The reason that is written by this byte.
-    pub fn from_byte(byte: u8) -> Result<LogoutReason, PacketFault>
-        ensures { result ≡ logout_of byte }
-    {
+    fn from(reason: LogoutReason) -> u8 {
+        reason as u8
+    }
+}
+
+/// The reason that a byte writes.
+impl TryFrom<u8> for LogoutReason {
+    type Error = PacketFault;
+
+    ghost try_from_gives = { λ b r. r ≡ logout_of b };
+
+    fn try_from(byte: u8) -> Result<LogoutReason, PacketFault> {
         match byte {
             b' ' => Ok(LogoutReason::Done),
             b'B' => Ok(LogoutReason::BadPacket),

@@ -6,7 +6,7 @@ use fault::{Field, PacketFault};
 use std::fmt;
 
 /// What a login response says of the login.
-#[derive(Clone, Copy)]
+#[derive(Clone, Copy, PartialEq, Eq, Debug)]
 pub enum Status {
     Accepted = b' ' as isize,
     UnknownUser = b'X' as isize,
@@ -17,18 +17,22 @@ pub enum Status {
     AlreadyLoggedIn = b'L' as isize,
 }
 
-impl Status {
-    /// The status as it stands in a packet.
-    pub fn byte(self) -> u8
-        ensures { result ≡ status_byte self }
-    {
-        self as u8
-    }
+/// The status as it stands in a packet.
+impl From<Status> for u8 {
+    ghost from_gives = { λ status b. b ≡ status_byte status };
 
-    /// The status that is written by this byte.
-    pub fn from_byte(byte: u8) -> Result<Status, PacketFault>
-        ensures { result ≡ status_of byte }
-    {
+    fn from(status: Status) -> u8 {
+        status as u8
+    }
+}
+
+/// The status that a byte writes.
+impl TryFrom<u8> for Status {
+    type Error = PacketFault;
+
+    ghost try_from_gives = { λ b r. r ≡ status_of b };
+
+    fn try_from(byte: u8) -> Result<Status, PacketFault> {
         match byte {
             b' ' => Ok(Status::Accepted),
             b'X' => Ok(Status::UnknownUser),
