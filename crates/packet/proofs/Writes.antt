@@ -9,7 +9,8 @@ use Rattle.layout.specs.Letters.{letter_byte}
 use Rattle.layout.specs.Numbers.{little}
 use Rattle.packet.specs.Values.{Value, Valid, Fields, login_request, login_response, sequenced, unsequenced, synchronization_complete, retransmission_request, logout_request, good_bye, end_of_session, hub_heartbeat, seat_heartbeat, test, encode, letter, body, length_number}
 use Rattle.packet.specs.Decoding.{decode}
-use Rattle.packet.specs.Writing.{Written, laid, widths, writable, granting, writing}
+use Rattle.memory.specs.Memory.{laid}
+use Rattle.packet.specs.Writing.{Written, widths, writable, granting, writing}
 use Rattle.packet.proofs.Framing.{within}
 use Rattle.packet.proofs.Back.{reads_back, length_encode}
 use Rattle.packet.proofs.Forth.{writes_back}

@@ -54,7 +54,3 @@ pub record Written (v : Value) (old new : List ℕ) (r : Result ℕ Refusal) : T
   pub beginnings : IfOk r (λ n. (k : ℕ) → k < n → decode (take k new) ≡ Ok part)
   -- a packet that is refused for a fault would not have been read back as itself
   pub unreadable : (fault : PacketFault) → r ≡ Err (BadPacket fault) → (rest : List ℕ) → Bytes (encode v ++ rest) → decode (encode v ++ rest) ≢ Ok (whole v)
-
--- bytes laid over others from a place on
-abbrev pub laid : List ℕ → ℕ → List ℕ → List ℕ
-laid old at new = take at old ++ (new ++ drop (at + length new) old)

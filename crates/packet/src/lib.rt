@@ -4,7 +4,7 @@
 //! bytes given. `Packet::write` writes a packet at the front of a lent buffer.
 //!
 //! Left out: lines, phases and what an end does with a packet. Here no letter is out of place.
-//! The types, in the order a reader meets them: `Login`, `Packet`, `Reader`, `Read`.
+//! The types, in the order a reader meets them: `Login`, `Packet`, `Reader`.
 #![tactic(auto)]
 
 pub mod laws;
@@ -13,4 +13,4 @@ pub mod reading;
 pub mod writing;
 
 pub use packets::{Login, Packet};
-pub use reading::{Read, Reader};
+pub use reading::Reader;

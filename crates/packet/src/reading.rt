@@ -12,15 +12,6 @@ use crate::packets::{Login, Packet};
 use fault::PacketFault;
 use layout::{GoodByeReason, LENGTH_LIMIT, Letter, LogoutReason, Status};
 
-/// What a reader says of bytes with no fault.
-#[derive(Clone, Copy)]
-pub enum Read<'a> {
-    /// The first packet is not all there yet.
-    Part,
-    /// The first packet.
-    Whole(Packet<'a>),
-}
-
 /// Reads the first packet of the bytes that it is lent.
 #[derive(Clone, Copy)]
 pub struct Reader<'a> {
@@ -35,6 +26,7 @@ impl<'a> Reader<'a> {
     }
 
     /// The length of the first packet with the two bytes of its length number, once these are in.
+    #[tactic(auto, unfolding(crate::specs::Decoding::packet_length))]
     pub fn packet_len(&self) -> Result<Option<usize>, PacketFault>
         ensures { result ≡ packet_length self.now.bytes.now }
     {
@@ -44,9 +36,9 @@ impl<'a> Reader<'a> {
         }
     }
 
-    /// The first packet, or that it is not all there yet. A length number that is 0 or too large is told as
-    /// soon as its two bytes are in; any other fault, once the packet is whole.
-    pub fn read(&self) -> Result<Read<'a>, PacketFault>
+    /// The first packet, or `None` while it is not all there yet. A length number that is 0 or too large is told
+    /// as soon as its two bytes are in; any other fault, once the packet is whole.
+    pub fn read(&self) -> Result<Option<Packet<'a>>, PacketFault>
         ensures { Told self.now.bytes.now (answer_of result) }
     {
         first(self.bytes)
@@ -54,29 +46,30 @@ impl<'a> Reader<'a> {
 }
 
 // The first packet of the bytes, with all that holds of such a reading.
-fn first<'a>(bytes: &'a [u8]) -> Result<Read<'a>, PacketFault>
+fn first<'a>(bytes: &'a [u8]) -> Result<Option<Packet<'a>>, PacketFault>
     ensures { Told bytes.now (answer_of result) }
 {
     taken_apart(bytes)
 }
 
 // The first packet of the bytes: length number, letter, body.
-fn taken_apart<'a>(bytes: &'a [u8]) -> Result<Read<'a>, PacketFault>
+#[tactic(auto, unfolding(crate::specs::Decoding::decode))]
+fn taken_apart<'a>(bytes: &'a [u8]) -> Result<Option<Packet<'a>>, PacketFault>
     ensures { answer_of result ≡ decode bytes.now }
 {
     match bytes {
         [low, high, letter, rest @ ..] => {
             let length = length_number(*low, *high)?;
             if rest.len() + 1 < length {
-                return Ok(Read::Part);
+                return Ok(None);
             }
-            Ok(Read::Whole(opened(*letter, &rest[0..length - 1])?))
+            Ok(Some(opened(*letter, &rest[0..length - 1])?))
         }
         [low, high] => {
             length_number(*low, *high)?;
-            Ok(Read::Part)
+            Ok(None)
         }
-        _ => Ok(Read::Part),
+        _ => Ok(None),
     }
 }
 
@@ -99,7 +92,7 @@ fn opened<'a>(letter: u8, body: &'a [u8]) -> Result<Packet<'a>, PacketFault>
     requires { length body.now < length_limit }
     ensures { values_of result ≡ opened_of letter body.now }
 {
-    let letter = Letter::from_byte(letter)?;
+    let letter = Letter::try_from(letter)?;
     if !letter.allows(body.len() + 1) {
         return Err(PacketFault::WrongLength);
     }
@@ -107,6 +100,7 @@ fn opened<'a>(letter: u8, body: &'a [u8]) -> Result<Packet<'a>, PacketFault>
 }
 
 // The fields of a body whose length its letter allows.
+#[tactic(auto, using(std::proofs::lemmas::List::take_rest))]
 fn content<'a>(letter: Letter, body: &'a [u8]) -> Result<Packet<'a>, PacketFault>
     requires { allowed letter (length body.now + 1) ≡ true }
     ensures { values_of result ≡ content_of letter body.now }
@@ -128,12 +122,12 @@ fn content<'a>(letter: Letter, body: &'a [u8]) -> Result<Packet<'a>, PacketFault
         }
         Letter::LogoutRequest => {
             Ok(Packet::LogoutRequest {
-                reason: LogoutReason::from_byte(body[0])?,
+                reason: LogoutReason::try_from(body[0])?,
                 text: &body[1..],
             })
         }
         Letter::GoodBye => Ok(Packet::GoodBye {
-            reason: GoodByeReason::from_byte(body[0])?,
+            reason: GoodByeReason::try_from(body[0])?,
             text: &body[1..],
         }),
         Letter::EndOfSession => Ok(Packet::EndOfSession),
@@ -167,7 +161,7 @@ fn response<'a>(body: &'a [u8]) -> Result<Packet<'a>, PacketFault>
     ensures { values_of result ≡ content_of LoginResponse body.now }
 {
     Ok(Packet::LoginResponse {
-        status: Status::from_byte(body[0])?,
+        status: Status::try_from(body[0])?,
         session: body[1],
         highest: number(&body[2..10]),
     })

@@ -12,11 +12,13 @@ ghost use Rattle.layout.specs.Numbers.{little};
 ghost use Rattle.packet.specs.declared.packets.Packet.TheVariants.{LoginRequest};
 ghost use Rattle.packet.specs.Meanings.{value_of};
 ghost use Rattle.packet.specs.Values.{Fields, Valid, body, length_number};
-ghost use Rattle.packet.specs.Writing.{Written, laid, widths, writable as writable_of};
+ghost use Rattle.memory.specs.Memory.{laid};
+ghost use Rattle.packet.specs.Writing.{Written, widths, writable as writable_of};
 
 use crate::packets::{Login, Packet};
 use fault::{PacketFault, Refusal};
-use layout::PACKET_LIMIT;
+use layout::{PACKET_LIMIT, number_bytes};
+use memory::lay;
 
 impl Packet<'_> {
     /// Writes the packet at the front of `out` and gives its length. A buffer that is too short is refused
@@ -28,7 +30,7 @@ impl Packet<'_> {
             return Err(Refusal::ShortBuffer);
         }
         let length = self.writable()?;
-        put_head(out, length as u16, self.letter().byte());
+        put_head(out, length as u16, self.letter().into());
         self.put_body(out);
         Ok(length + 2)
     }
@@ -108,7 +110,7 @@ impl Packet<'_> {
                 session,
                 highest,
             } => {
-                put_two(out, 3, &[status.byte(), session], &number_bytes(highest));
+                put_two(out, 3, &[status.into(), session], &number_bytes(highest));
             }
             Packet::Sequenced { number, message } => put_two(
                 out,
@@ -116,13 +118,13 @@ impl Packet<'_> {
                 &number_bytes(number),
                 message,
             ),
-            Packet::Unsequenced { message } => put(out, 3, message),
+            Packet::Unsequenced { message } => lay(out, 3, message),
             Packet::RetransmissionRequest { start, end } => {
                 put_two(out, 3, &number_bytes(start), &number_bytes(end));
             }
-            Packet::LogoutRequest { reason, text } => put_two(out, 3, &[reason.byte()], text),
-            Packet::GoodBye { reason, text } => put_two(out, 3, &[reason.byte()], text),
-            Packet::Test { text } => put(out, 3, text),
+            Packet::LogoutRequest { reason, text } => put_two(out, 3, &[reason.into()], text),
+            Packet::GoodBye { reason, text } => put_two(out, 3, &[reason.into()], text),
+            Packet::Test { text } => lay(out, 3, text),
             Packet::SynchronizationComplete
             | Packet::EndOfSession
             | Packet::HubHeartbeat
@@ -158,21 +160,6 @@ fn put_two(out: &mut [u8], at: usize, first: &[u8], second: &[u8])
     requires { at + length first.now + length second.now ≤ length out.old }
     ensures { out.new ≡ laid out.old at (first.now ++ second.now) }
 {
-    put(out, at, first);
-    put(out, at + first.len(), second);
-}
-
-// One piece.
-fn put(out: &mut [u8], at: usize, bytes: &[u8])
-    requires { at + length bytes.now ≤ length out.old }
-    ensures { out.new ≡ laid out.old at bytes.now }
-{
-    out[at..at + bytes.len()].copy_from_slice(bytes);
-}
-
-// A number in eight bytes, the least byte first.
-fn number_bytes(number: u64) -> [u8; 8]
-    ensures { result ≡ little 8 number }
-{
-    number.to_le_bytes()
+    lay(out, at, first);
+    lay(out, at + first.len(), second);
 }

@@ -2,7 +2,7 @@ use Rattle.std.proofs.Common.{◌+◌, ◌≤◌, length, sym, ap, ◌∙◌, ru
 use native.Mathlib.Nat.{sub-zero}
 use Rattle.std.proofs.lemmas.List.{take_rest}
 use Rattle.std.proofs.lemmas.Result.{err_from_is_err_and}
-use Rattle.packet.specs.Decoding.{decode, wholly}
+use Rattle.packet.specs.Decoding.{wholly}
 use Rattle.packet.proofs.Framing.{decode_whole}
 use Rattle.packet.proofs.reading.taken_apart.Goals as goal
 
@@ -22,23 +22,3 @@ returns-in_err-opened-in-len3-up c =
     let p = simp (take_rest, sub-zero) at c.in_err-opened-in-len3-up.ensures in
     let r = err_from_is_err_and c.from_residual-in_err-opened-in-len3-up.result c.from_residual-in_err-opened-in-len3-up.ensures.1 in
     rw (r.1, r.2) (ap wholly p ∙ sym (decode_whole bs c.in_ok-length-in-len3-up.length h c.in_ok-length-in-len3-up.ensures k))
-
-pub returns-in_err-length_number-in-len2 : goal.returns-in_err-length_number-in-len2
-unfolding decode
-returns-in_err-length_number-in-len2 c = search rules
-
-pub returns-in_err-length-in-len3-up : goal.returns-in_err-length-in-len3-up
-unfolding decode
-returns-in_err-length-in-len3-up c = search rules
-
-pub returns-then-rest-length : goal.returns-then-rest-length
-unfolding decode
-returns-then-rest-length c = search rules
-
-pub returns-in_default : goal.returns-in_default
-unfolding decode
-returns-in_default c = search rules
-
-pub returns-in_ok-length_number-in-len2 : goal.returns-in_ok-length_number-in-len2
-unfolding decode
-returns-in_ok-length_number-in-len2 c = search rules

@@ -1,7 +1,7 @@
-use Rattle.std.proofs.Common.{refl, arith}
-use Rattle.packet.proofs.Laying.{then}
+use Rattle.std.proofs.Common.{arith}
+use Rattle.packet.proofs.Laying.{then_fitting}
 use Rattle.packet.proofs.writing.put_two.Goals as goal
 
 pub returns : goal.returns
 returns c =
-    then c.args.out.now _ _ c.args.first.now c.args.second.now c.args.at _ (omega arith) refl c.put.ensures c.put-2.ensures
+    then_fitting c.args.out.now _ _ c.args.first.now c.args.second.now c.args.at (omega arith) c.lay.ensures c.lay-2.ensures

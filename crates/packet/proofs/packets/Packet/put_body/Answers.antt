@@ -3,7 +3,7 @@ use Rattle.layout.specs.Numbers.{little}
 use Rattle.packet.specs.declared.packets.Packet.{Packet}
 use Rattle.packet.specs.Meanings.{value_of}
 use Rattle.packet.specs.Values.{Fields, body}
-use Rattle.packet.specs.Writing.{laid}
+use Rattle.memory.specs.Memory.{laid}
 use Rattle.packet.proofs.packets.Packet.put_body.Goals as goal
 
 pub put_login-requires : goal.put_login-requires
