@@ -55,7 +55,7 @@ pub enum LogFault {
 }
 
 /// The layer that found a fault.
-#[derive(Clone, Copy)]
+#[derive(Clone, Copy, PartialEq, Eq, Debug)]
 pub enum Layer {
     Packet,
     Log,

@@ -6,11 +6,11 @@ ghost use Rattle.rules.specs.Frames.{among, placed as placed_of, judged};
 
 use fault::PacketFault;
 use layout::Letter;
-use packet::{Read, Reader};
+use packet::{Packet, Reader};
 
 /// What an end that takes these letters says of its frame: a part, a packet or a fault. A letter that is out of
 /// place is told before a wrong length and a wrong content, and after a letter that is none.
-pub fn judge<'a>(bytes: &'a [u8], letters: &[Letter]) -> Result<Read<'a>, PacketFault>
+pub fn judge<'a>(bytes: &'a [u8], letters: &[Letter]) -> Result<Option<Packet<'a>>, PacketFault>
     ensures { answer_of result ≡ judged letters.now bytes.now }
 {
     placed(is_taken(bytes, letters), Reader::new(bytes).read())
@@ -20,29 +20,21 @@ pub fn judge<'a>(bytes: &'a [u8], letters: &[Letter]) -> Result<Read<'a>, Packet
 fn is_taken(bytes: &[u8], letters: &[Letter]) -> bool
     ensures { result ≡ among letters.now (slice_index bytes.now 2) }
 {
-    let byte = if bytes.len() > 2 { bytes[2] } else { 0 };
-    is_among(letters, byte)
-}
-
-// Whether the byte is that of one of the letters.
-fn is_among(letters: &[Letter], byte: u8) -> bool
-    ensures { result ≡ among letters.now byte }
-{
-    for i in 0..letters.len() {
-        if letters[i].byte() == byte {
-            return true;
-        }
-    }
-    false
+    let byte = bytes.get(2).copied().unwrap_or(0);
+    letters.iter().any(|letter| byte == u8::from(*letter))
 }
 
 // What an end says where a reader says this and the letter is taken `here`, or not.
-fn placed<'a>(here: bool, read: Result<Read<'a>, PacketFault>) -> Result<Read<'a>, PacketFault>
+fn placed<'a>(
+    here: bool,
+    read: Result<Option<Packet<'a>>, PacketFault>,
+) -> Result<Option<Packet<'a>>, PacketFault>
     ensures { answer_of result ≡ placed_of here (answer_of read.entry) }
 {
     match read {
-        Ok(Read::Whole(_)) | Err(PacketFault::WrongLength | PacketFault::WrongContent(_))
-            if !here => Err(PacketFault::OutOfPlace),
+        Ok(Some(_)) | Err(PacketFault::WrongLength | PacketFault::WrongContent(_)) if !here => Err(
+            PacketFault::OutOfPlace,
+        ),
         _ => read,
     }
 }

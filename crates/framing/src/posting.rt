@@ -11,8 +11,9 @@ ghost use Rattle.packet.specs.Values.{sequenced, encode};
 ghost use Rattle.framing.specs.Posting.{Posted, posting, posting_message};
 
 use fault::Refusal;
-use layout::{Letter, PACKET_LIMIT};
+use layout::{Letter, PACKET_LIMIT, number_bytes};
 use line::Line;
+use memory::lay;
 use message_log::Log;
 use packet::Packet;
 
@@ -58,9 +59,8 @@ fn lay_message<G: Log>(number: u64, bytes: u16, log: &G, out: &mut [u8])
     requires room { packet_limit ≤ length out.old }
     ensures { out.new ≡ fronted (encode (sequenced number (nth (G.Log.view log.now) number))) out.old }
 {
-    lay(out, &head(number, bytes));
-    let end = out.len();
-    let _ = log.read(number as usize, &mut out[11..end]);
+    lay(out, 0, &head(number, bytes));
+    let _ = log.read(number as usize, &mut out[11..]);
 }
 
 // The head of a sequenced packet: what stands before a message of so many bytes.
@@ -70,20 +70,5 @@ fn head(number: u64, bytes: u16) -> [u8; 11]
 {
     let [low, high] = (bytes + 9).to_le_bytes();
     let [a, b, c, d, e, f, g, h] = number_bytes(number);
-    [low, high, Letter::Sequenced.byte(), a, b, c, d, e, f, g, h]
-}
-
-// A number in eight bytes, the least byte first.
-fn number_bytes(number: u64) -> [u8; 8]
-    ensures { result ≡ little 8 number }
-{
-    number.to_le_bytes()
-}
-
-// Lays bytes at the front of a buffer.
-fn lay(out: &mut [u8], bytes: &[u8])
-    requires { length bytes.now ≤ length out.old }
-    ensures { out.new ≡ fronted bytes.now out.old }
-{
-    out[0..bytes.len()].copy_from_slice(bytes);
+    [low, high, Letter::Sequenced.into(), a, b, c, d, e, f, g, h]
 }

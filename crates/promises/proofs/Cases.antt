@@ -32,8 +32,6 @@ use Rattle.rules.specs.declared.phases.How.{How}
 use Rattle.rules.specs.declared.phases.How.TheVariants.{Join, Anew, Fetch}
 use Rattle.rules.specs.declared.answers.Received.{Received}
 use Rattle.rules.specs.declared.answers.Received.TheVariants.{Nothing, Part, Acted, Message}
-use Rattle.rules.specs.declared.answers.Sent.{Sent}
-use Rattle.rules.specs.declared.answers.Sent.TheVariants.{Idle, Wrote}
 use Rattle.rules.specs.State.{Pair, Outcome}
 use Rattle.rules.specs.Changes.{with_up, with_down, with_held, with_log, grants, refuses, hub_to, hub_leaves, hub_admits, hub_writes, hub_took, seat_with, seat_to, seat_writes, seat_took}
 use Rattle.rules.specs.Frames.{lack, given, left, Free, judged}
@@ -374,12 +372,12 @@ pub data HubOwes (s : Pair) : Value → Pair → Type 0 where
 
 pub data HubSent (s : Pair) : Sending → Type 0 where
   sent_refused : (r : Refusal) → HubSent s (record { answer = Err r; wrote = None; after = s })
-  sent_none : HubSent s (record { answer = Ok Idle; wrote = None; after = s })
-  sent_all_lem : HubSent s (record { answer = Ok Idle; wrote = None; after = hub_leaves Shut s })
-  sent_packet : (v : Value) (t : Pair) → HubOwes s v t → HubSent s (record { answer = Ok (Wrote (letter v)); wrote = Some v; after = hub_writes v t })
+  sent_none : HubSent s (record { answer = Ok None; wrote = None; after = s })
+  sent_all_lem : HubSent s (record { answer = Ok None; wrote = None; after = hub_leaves Shut s })
+  sent_packet : (v : Value) (t : Pair) → HubOwes s v t → HubSent s (record { answer = Ok (Some (letter v)); wrote = Some v; after = hub_writes v t })
 
 posted : (s : Pair) (v : Value) (t : Pair) → HubOwes s v t → HubSent s (hub_posts (Some v) t s)
-posted s v t o = cond_both (fits s.down (encode v)) (record { answer = Ok (Wrote (letter v)); wrote = Some v; after = hub_writes v t }) (record { answer = Err LineFull; wrote = None; after = s }) (HubSent s) (λ f. sent_packet v t o) (λ f. sent_refused LineFull)
+posted s v t o = cond_both (fits s.down (encode v)) (record { answer = Ok (Some (letter v)); wrote = Some v; after = hub_writes v t }) (record { answer = Err LineFull; wrote = None; after = s }) (HubSent s) (λ f. sent_packet v t o) (λ f. sent_refused LineFull)
 
 abbrev posts : Due → Pair → Sending
 posts d s = hub_posts d.packet d.then s
@@ -409,13 +407,13 @@ hub_sent_lem s = go s.hub.phase refl
         (λ t. sent_all_lem)
 
 -- what the seat sends
-pub data SeatSent (s : Pair) : Outcome Sent → Type 0 where
+pub data SeatSent (s : Pair) : Outcome (Option Letter) → Type 0 where
   seat_sent_refused : (r : Refusal) → SeatSent s (refuses r s)
-  seat_sent_none : SeatSent s (grants Idle s)
-  seat_sent_request : (v : Value) → s.seat.phase ≡ Live → SeatSent s (grants (Wrote (letter v)) (seat_writes v (seat_requested s)))
-  seat_sent_beat : (v : Value) → s.seat.phase ≡ Live → SeatSent s (grants (Wrote (letter v)) (seat_writes v s))
+  seat_sent_none : SeatSent s (grants None s)
+  seat_sent_request : (v : Value) → s.seat.phase ≡ Live → SeatSent s (grants (Some (letter v)) (seat_writes v (seat_requested s)))
+  seat_sent_beat : (v : Value) → s.seat.phase ≡ Live → SeatSent s (grants (Some (letter v)) (seat_writes v s))
 
-abbrev seat_posts_lem : Due → Pair → Outcome Sent
+abbrev seat_posts_lem : Due → Pair → Outcome (Option Letter)
 seat_posts_lem d s = seat_posts d.packet d.then s
 
 pub seat_sent : (s : Pair) → SeatSent s (seat_sends s)
@@ -424,14 +422,14 @@ seat_sent s = go s.seat.phase refl
     live : (f : Option ℕ) → s.seat.phase ≡ Live → SeatSent s (seat_posts_lem (live_due f s) s)
     live None e =
         cond_both (ltb beat_after s.seat.unsent) (due seat_heartbeat s) (none_due s) (λ d. SeatSent s (seat_posts_lem d s))
-        (λ t. cond_both (fits s.up (encode seat_heartbeat)) (grants (Wrote (letter seat_heartbeat)) (seat_writes seat_heartbeat s)) (refuses LineFull s) (SeatSent s) (λ u. seat_sent_beat seat_heartbeat e) (λ u. seat_sent_refused LineFull))
+        (λ t. cond_both (fits s.up (encode seat_heartbeat)) (grants (Some (letter seat_heartbeat)) (seat_writes seat_heartbeat s)) (refuses LineFull s) (SeatSent s) (λ u. seat_sent_beat seat_heartbeat e) (λ u. seat_sent_refused LineFull))
         (λ t. seat_sent_none)
     live (Some f) e =
         let v : Value = retransmission_request (next_number s.held) f in
         cond_both s.seat.requested (none_due s) (cond (ltb (count s.held) f) (due v (seat_requested s)) (none_due s)) (λ d. SeatSent s (seat_posts_lem d s))
         (λ t. seat_sent_none)
         (λ t. cond_both (ltb (count s.held) f) (due v (seat_requested s)) (none_due s) (λ d. SeatSent s (seat_posts_lem d s))
-        (λ u. cond_both (fits s.up (encode v)) (grants (Wrote (letter v)) (seat_writes v (seat_requested s))) (refuses LineFull s) (SeatSent s) (λ w. seat_sent_request v e) (λ w. seat_sent_refused LineFull))
+        (λ u. cond_both (fits s.up (encode v)) (grants (Some (letter v)) (seat_writes v (seat_requested s))) (refuses LineFull s) (SeatSent s) (λ w. seat_sent_request v e) (λ w. seat_sent_refused LineFull))
         (λ u. seat_sent_none))
 
     go : (p : SeatPhase) → s.seat.phase ≡ p → SeatSent s (cond (is_apart p) (refuses WrongPhase s) (seat_posts_lem (seat_due p s) s))

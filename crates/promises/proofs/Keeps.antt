@@ -23,7 +23,6 @@ use Rattle.rules.specs.declared.phases.HubPhase.TheVariants.{Shut, Waiting, Answ
 use Rattle.rules.specs.declared.phases.SeatPhase.{SeatPhase}
 use Rattle.rules.specs.declared.phases.SeatPhase.TheVariants.{Apart, Live}
 use Rattle.rules.specs.declared.answers.Received.{Received}
-use Rattle.rules.specs.declared.answers.Sent.{Sent}
 use Rattle.rules.specs.declared.answers.Report.{Report}
 use Rattle.rules.specs.State.{Running, HubEnd, Pair, Outcome}
 use Rattle.rules.specs.Changes.{hub_leaves, hub_writes, hub_took, seat_took}
@@ -237,7 +236,7 @@ seat_heard_keep b s _ (seat_whole x xs d v na tk ju) i =
 pub seat_receives_keep : (b : Book) (s : Pair) (o : Outcome Received) → SeatReceives s o → Sound b s → Kept b s o.after
 seat_receives_keep b s o r = seat_heard_keep b s o (seat_heard_lem s o r)
 
-pub seat_sent_keep : (b : Book) (s : Pair) (o : Outcome Sent) → SeatSent s o → Sound b s → Kept b s o.after
+pub seat_sent_keep : (b : Book) (s : Pair) (o : Outcome (Option Letter)) → SeatSent s o → Sound b s → Kept b s o.after
 seat_sent_keep b s _ (seat_sent_refused r) i = same_log b s s refl i
 seat_sent_keep b s _ seat_sent_none i = same_log b s s refl i
 seat_sent_keep b s _ (seat_sent_request v ph) i = same_log b s _ refl i

@@ -27,7 +27,6 @@ use Rattle.rules.specs.declared.phases.SeatPhase.TheVariants.{Apart, Asking, Liv
 use Rattle.rules.specs.declared.phases.How.{How}
 use Rattle.rules.specs.declared.phases.How.TheVariants.{Join, Anew, Fetch}
 use Rattle.rules.specs.declared.answers.Received.{Received}
-use Rattle.rules.specs.declared.answers.Sent.{Sent}
 use Rattle.rules.specs.declared.answers.Report.{Report}
 use Rattle.rules.specs.State.{SeatEnd, Account, Pair, Outcome}
 use Rattle.rules.specs.Changes.{hub_leaves, hub_writes, hub_took, seat_took, seat_to, seat_writes}
@@ -393,7 +392,7 @@ live_stage o w u ps x (Filling n m) l st = st
 live_writes : (o : Option Note) (b : Book) (s : Pair) (v : Value) → s.seat.phase ≡ Live → Truth o b s → Truth o b (seat_writes v s)
 live_writes o b s v l tr = rehub o b (view s) s.hub.phase s.hub.frame (s.up.waiting ++ encode v) (λ y. (live_stage o (view s) (s.up.waiting ++ encode v) y.packets y.session s.hub.phase l y.stage, omega arith)) tr
 
-seat_sent_tru : (o : Option Note) (b : Book) (s : Pair) (p : Outcome Sent) → SeatSent s p → Truth o b s → Truth o b p.after
+seat_sent_tru : (o : Option Note) (b : Book) (s : Pair) (p : Outcome (Option Letter)) → SeatSent s p → Truth o b s → Truth o b p.after
 seat_sent_tru o b s _ (seat_sent_refused r) tr = tr
 seat_sent_tru o b s _ seat_sent_none tr = tr
 seat_sent_tru o b s _ (seat_sent_request v ph) tr = live_writes o b s v ph tr

@@ -30,7 +30,6 @@ use Rattle.rules.specs.declared.phases.How.{How}
 use Rattle.rules.specs.declared.phases.How.TheVariants.{Join, Anew, Fetch}
 use Rattle.rules.specs.declared.answers.Received.{Received}
 use Rattle.rules.specs.declared.answers.Received.TheVariants.{Acted}
-use Rattle.rules.specs.declared.answers.Sent.{Sent}
 use Rattle.rules.specs.declared.answers.Report.{Report}
 use Rattle.rules.specs.State.{Steady, Buffers, Pair, Outcome}
 use Rattle.rules.specs.Changes.{with_log, grants, refuses, hub_to, hub_writes, hub_took, hub_leaves, seat_writes, seat_took, seat_to, wiped}
@@ -258,10 +257,10 @@ seat_due_keeps Live s = live_due_keeps s.seat.fetch s
 
 seat_posts_keep : (o : Option Value) (then s : Pair) → Keeps s then → Keeps s (seat_posts o then s).after
 seat_posts_keep None then s h = h
-seat_posts_keep (Some v) then s h = cond_both (fits s.up (encode v)) _ _ (λ (x : Outcome Sent). Keeps s x.after) (λ e. keeps_trans h (seat_writes_keeps v then)) (λ e. keeps_same s)
+seat_posts_keep (Some v) then s h = cond_both (fits s.up (encode v)) _ _ (λ (x : Outcome (Option Letter)). Keeps s x.after) (λ e. keeps_trans h (seat_writes_keeps v then)) (λ e. keeps_same s)
 
 pub seat_sends_keep : (s : Pair) → Keeps s (seat_sends s).after
-seat_sends_keep s = cond_both (is_apart s.seat.phase) _ _ (λ (x : Outcome Sent). Keeps s x.after) (λ e. keeps_same s) (λ e. seat_posts_keep _ _ s (seat_due_keeps s.seat.phase s))
+seat_sends_keep s = cond_both (is_apart s.seat.phase) _ _ (λ (x : Outcome (Option Letter)). Keeps s x.after) (λ e. keeps_same s) (λ e. seat_posts_keep _ _ s (seat_due_keeps s.seat.phase s))
 
 -- the other calls
 wiped_keeps : (s : Pair) → Keeps s (wiped s)

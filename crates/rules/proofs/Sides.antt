@@ -23,8 +23,6 @@ use Rattle.rules.specs.declared.phases.SeatPhase.{SeatPhase}
 use Rattle.rules.specs.declared.phases.SeatPhase.TheVariants.{Apart, Asking, Live}
 use Rattle.rules.specs.declared.answers.Received.{Received}
 use Rattle.rules.specs.declared.answers.Received.TheVariants.{Acted}
-use Rattle.rules.specs.declared.answers.Sent.{Sent}
-use Rattle.rules.specs.declared.answers.Sent.TheVariants.{Wrote}
 use Rattle.rules.specs.State.{Pair, Outcome}
 use Rattle.rules.specs.Changes.{grants, refuses, hub_to, hub_leaves, hub_writes, hub_took, seat_to, seat_writes, seat_took}
 use Rattle.rules.specs.Frames.{judged}
@@ -33,6 +31,7 @@ use Rattle.rules.specs.Seat.{seat_gone, is_apart, seat_letters, suits, next_numb
 use Rattle.rules.specs.Calls.{done, is_serving, is_live, tell, say, leave, hub_timed, seat_timed, waiting_limit, silence_limit}
 use Rattle.rules.specs.Sides.{with_hub_side, with_seat_side, with_hub_core, with_seat_core, on_side, on_core}
 use Rattle.rules.proofs.Cases.{Act, hub_acts_lem, seat_acts_lem}
+use Rattle.layout.specs.declared.letters.Letter.{Letter}
 
 along : {A B : Type 0} (f : A → B) (b : Bool) (x y : A) (z w : B) → z ≡ f x → w ≡ f y → cond b z w ≡ f (cond b x y)
 along f true x y z w p q = p
@@ -127,7 +126,7 @@ seat_hears_side (b ∷ bs) w s t = seat_judges_side (judged (seat_letters s.seat
 hub_posts_core : (v : Value) (u s t : Pair) → hub_posts (Some v) (with_hub_core t u) (with_hub_core t s) ≡ on_core (with_hub_core t) (hub_posts (Some v) u s)
 hub_posts_core v u s t = go (fits s.down (encode v))
   where
-    go : (b : Bool) → cond b (record { answer = Ok (Wrote (letter v)); wrote = Some v; after = hub_writes v (with_hub_core t u) }) (record { answer = Err LineFull; wrote = None; after = with_hub_core t s }) ≡ on_core (with_hub_core t) (cond b (record { answer = Ok (Wrote (letter v)); wrote = Some v; after = hub_writes v u }) (record { answer = Err LineFull; wrote = None; after = s }))
+    go : (b : Bool) → cond b (record { answer = Ok (Some (letter v)); wrote = Some v; after = hub_writes v (with_hub_core t u) }) (record { answer = Err LineFull; wrote = None; after = with_hub_core t s }) ≡ on_core (with_hub_core t) (cond b (record { answer = Ok (Some (letter v)); wrote = Some v; after = hub_writes v u }) (record { answer = Err LineFull; wrote = None; after = s }))
     go true = refl
     go false = refl
 
@@ -190,11 +189,11 @@ hub_timed_core (Filling n l) s t = refl
 seat_posts_core : (v : Value) (u s t : Pair) → seat_posts (Some v) (with_seat_core t u) (with_seat_core t s) ≡ on_side (with_seat_core t) (seat_posts (Some v) u s)
 seat_posts_core v u s t = go (fits s.up (encode v))
   where
-    go : (b : Bool) → cond b (grants (Wrote (letter v)) (seat_writes v (with_seat_core t u))) (refuses LineFull (with_seat_core t s)) ≡ on_side (with_seat_core t) (cond b (grants (Wrote (letter v)) (seat_writes v u)) (refuses LineFull s))
+    go : (b : Bool) → cond b (grants (Some (letter v)) (seat_writes v (with_seat_core t u))) (refuses LineFull (with_seat_core t s)) ≡ on_side (with_seat_core t) (cond b (grants (Some (letter v)) (seat_writes v u)) (refuses LineFull s))
     go true = refl
     go false = refl
 
-abbrev seat_posts_lem : Due → Pair → Outcome Sent
+abbrev seat_posts_lem : Due → Pair → Outcome (Option Letter)
 seat_posts_lem d s = seat_posts d.packet d.then s
 
 live_core : (f : Option ℕ) (s t : Pair) → seat_posts_lem (live_due f (with_seat_core t s)) (with_seat_core t s) ≡ on_side (with_seat_core t) (seat_posts_lem (live_due f s) s)

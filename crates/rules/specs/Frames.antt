@@ -1,5 +1,6 @@
 -- Frames: how many bytes one lacks, what a take hands over, and how a frame is judged.
-use Rattle.std.specs.Prelude.{◌≡◌, ℕ, ◌+◌, ◌-◌, ◌≤◌, min, Bool, false, cond, ◌||◌, List, [], ◌∷◌, length, take, drop, Ok, Err, Result, ◌==◌, nat_lt, slice_index}
+use Rattle.std.specs.Prelude.{◌≡◌, ℕ, ◌+◌, ◌-◌, ◌≤◌, min, Bool, cond, List, [], length, take, drop, Ok, Err, Result, ◌==◌, nat_lt, slice_index}
+use Rattle.std.specs.List.{list_any}
 use Rattle.fault.specs.declared.faults.PacketFault.{PacketFault}
 use Rattle.fault.specs.declared.faults.PacketFault.TheVariants.{LengthZero, LengthOverLimit, UnknownLetter, OutOfPlace, WrongLength, WrongContent}
 use Rattle.layout.specs.Limits.{packet_limit}
@@ -29,8 +30,7 @@ pub record Free (v : LineView) (n room : ℕ) : Type 0 where
 
 -- whether the byte is that of one of the letters
 abbrev pub among : List Letter → ℕ → Bool
-among [] b = false
-among (l ∷ ls) b = b == letter_byte l || among ls b
+among letters b = list_any (λ l. b == letter_byte l) letters
 
 -- An end that knows its phase tells a letter that is out of place before a wrong length or a wrong content.
 abbrev pub placed : Bool → Result Answer PacketFault → Result Answer PacketFault

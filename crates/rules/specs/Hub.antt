@@ -22,8 +22,6 @@ use Rattle.rules.specs.declared.phases.HubPhase.{HubPhase}
 use Rattle.rules.specs.declared.phases.HubPhase.TheVariants.{Shut, Waiting, Answering, Rejecting, Serving, Filling}
 use Rattle.rules.specs.declared.answers.Received.{Received}
 use Rattle.rules.specs.declared.answers.Received.TheVariants.{Nothing, Part, Acted, Message}
-use Rattle.rules.specs.declared.answers.Sent.{Sent}
-use Rattle.rules.specs.declared.answers.Sent.TheVariants.{Idle, Wrote}
 use Rattle.rules.specs.State.{Pair, Outcome}
 use Rattle.rules.specs.Changes.{with_up, grants, refuses, hub_to, hub_leaves, hub_admits, hub_writes, hub_tells, hub_took}
 use Rattle.rules.specs.Frames.{judged}
@@ -198,16 +196,16 @@ hub_due (Filling next last) s =
 
 -- What a send of the hub answers, the packet that it wrote, and the pair after it.
 pub record Sending : Type 0 where
-  pub answer : Result Sent Refusal
+  pub answer : Result (Option Letter) Refusal
   pub wrote : Option Value
   pub after : Pair
 
 -- the packet that is due is written if the line has the room; a smaller one is not sent in its place
 abbrev pub hub_posts : Option Value → Pair → Pair → Sending
-hub_posts None then s = record { answer = Ok Idle; wrote = None; after = then }
+hub_posts None then s = record { answer = Ok None; wrote = None; after = then }
 hub_posts (Some v) then s =
     cond (fits s.down (encode v))
-    (record { answer = Ok (Wrote (letter v)); wrote = Some v; after = hub_writes v then })
+    (record { answer = Ok (Some (letter v)); wrote = Some v; after = hub_writes v then })
     (record { answer = Err LineFull; wrote = None; after = s })
 
 abbrev pub is_shut : HubPhase → Bool

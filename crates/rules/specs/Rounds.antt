@@ -10,7 +10,6 @@ use Rattle.packet.specs.Values.{Value}
 use Rattle.rules.specs.declared.phases.How.{How}
 use Rattle.rules.specs.declared.answers.Received.{Received}
 use Rattle.rules.specs.declared.answers.Received.TheVariants.{Nothing, Part, Acted, Message}
-use Rattle.rules.specs.declared.answers.Sent.{Sent}
 use Rattle.rules.specs.declared.answers.Report.{Report}
 use Rattle.rules.specs.State.{Pair, Outcome}
 use Rattle.rules.specs.Changes.{refuses}
@@ -18,6 +17,7 @@ use Rattle.rules.specs.Frames.{lack, given, left, Free}
 use Rattle.rules.specs.Hub.{listens, hub_hears, hub_sends}
 use Rattle.rules.specs.Seat.{is_apart, seat_hears, seat_sends}
 use Rattle.rules.specs.Calls.{Done, done, connect, cut, publish, finish, roll, tell, say, leave, tick}
+use Rattle.layout.specs.declared.letters.Letter.{Letter}
 
 -- The hub receives: it takes once, at most what its frame lacks. The take leaves a room that is free.
 pub data HubReceives (s : Pair) : Outcome Received → Type 0 where
@@ -100,7 +100,7 @@ pub data Call : Type 0 where
 pub data Answer : Type 0 where
   Did : Result (Unit {0}) Refusal → Answer
   Took : Result Received Refusal → Answer
-  Put : Result Sent Refusal → Answer
+  Put : Result (Option Letter) Refusal → Answer
   Went : Result Report Refusal → Answer
 
 -- a call is refused, with nothing changed

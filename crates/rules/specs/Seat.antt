@@ -20,8 +20,6 @@ use Rattle.rules.specs.declared.phases.SeatPhase.{SeatPhase}
 use Rattle.rules.specs.declared.phases.SeatPhase.TheVariants.{Apart, Asking, Live}
 use Rattle.rules.specs.declared.answers.Received.{Received}
 use Rattle.rules.specs.declared.answers.Received.TheVariants.{Nothing, Part, Acted, Message}
-use Rattle.rules.specs.declared.answers.Sent.{Sent}
-use Rattle.rules.specs.declared.answers.Sent.TheVariants.{Idle, Wrote}
 use Rattle.rules.specs.State.{Pair, Outcome}
 use Rattle.rules.specs.Changes.{with_down, with_held, with_seat, grants, refuses, seat_with, seat_to, seat_writes, seat_tells, seat_took}
 use Rattle.rules.specs.Frames.{judged}
@@ -162,11 +160,11 @@ seat_due Apart s = none_due s
 seat_due Asking s = none_due s
 seat_due Live s = live_due s.seat.fetch s
 
-abbrev pub seat_posts : Option Value → Pair → Pair → Outcome Sent
-seat_posts None then s = grants Idle then
-seat_posts (Some v) then s = cond (fits s.up (encode v)) (grants (Wrote (letter v)) (seat_writes v then)) (refuses LineFull s)
+abbrev pub seat_posts : Option Value → Pair → Pair → Outcome (Option Letter)
+seat_posts None then s = grants None then
+seat_posts (Some v) then s = cond (fits s.up (encode v)) (grants (Some (letter v)) (seat_writes v then)) (refuses LineFull s)
 
-abbrev pub seat_sends : Pair → Outcome Sent
+abbrev pub seat_sends : Pair → Outcome (Option Letter)
 seat_sends s =
     cond (is_apart s.seat.phase) (refuses WrongPhase s)
     (seat_posts (seat_due s.seat.phase s).packet (seat_due s.seat.phase s).then s)

@@ -15,15 +15,6 @@ pub enum Received {
     Message { place: usize, length: usize },
 }
 
-/// What a granted send did.
-#[derive(Clone, Copy)]
-pub enum Sent {
-    /// Nothing was due.
-    Idle,
-    /// A packet with this letter was written.
-    Wrote(Letter),
-}
-
 /// What an end did with what waited for it.
 #[derive(Clone, Copy)]
 pub struct Heard {

@@ -11,7 +11,6 @@ use Rattle.message_log.specs.Meaning.{Meaning}
 use Rattle.message_log.specs.Calls.{settled, fronted}
 use Rattle.framing.specs.Posting.{Posted, posting, roomy}
 use Rattle.framing.proofs.Valid.{posting_valid}
-use Rattle.rules.specs.declared.answers.Sent.TheVariants.{Idle, Wrote}
 use Rattle.rules.specs.State.{Pair}
 use Rattle.rules.specs.Changes.{grants, refuses, with_seat, seat_writes}
 use Rattle.rules.specs.Hub as Hub
@@ -46,11 +45,11 @@ requested_in requested s =
 
 -- what a send comes to where this is due
 sends_due : (s then : Pair) (v : Value) → too_short s.buffers.out ≡ false → is_apart s.seat.phase ≡ false → Hub.due v then ≡ seat_due s.seat.phase s →
-    unless_short seat_sends s ≡ cond (fits s.up (encode v)) (grants (Wrote (letter v)) (seat_writes v then)) (refuses LineFull s)
+    unless_short seat_sends s ≡ cond (fits s.up (encode v)) (grants (Some (letter v)) (seat_writes v then)) (refuses LineFull s)
 sends_due s then v a b d = cond-false _ _ _ a ∙ cond-false _ _ _ b ∙ ap (λ (x : Hub.Due). seat_posts x.packet x.then s) (sym d)
 
 pub sends_granted : (s then : Pair) (v : Value) → too_short s.buffers.out ≡ false → is_apart s.seat.phase ≡ false → Hub.due v then ≡ seat_due s.seat.phase s → fits s.up (encode v) ≡ true →
-    unless_short seat_sends s ≡ grants (Wrote (letter v)) (seat_writes v then)
+    unless_short seat_sends s ≡ grants (Some (letter v)) (seat_writes v then)
 sends_granted s then v a b d f = sends_due s then v a b d ∙ cond-true _ _ _ f
 
 pub sends_refused : (s then : Pair) (v : Value) → too_short s.buffers.out ≡ false → is_apart s.seat.phase ≡ false → Hub.due v then ≡ seat_due s.seat.phase s → fits s.up (encode v) ≡ false →
@@ -59,7 +58,7 @@ sends_refused s then v a b d f = sends_due s then v a b d ∙ cond-false _ _ _ f
 
 -- nothing is due
 pub sends_none : (standing : Standing) (log : Meaning) (s : Pair) (r : Option Due) → ((d : Due) → r ≡ Some d → ⊥) → too_short s.buffers.out ≡ false → is_apart s.seat.phase ≡ false →
-    stands_in standing log s ≡ s → due_of r standing log s ≡ seat_due s.seat.phase s → grants Idle s ≡ unless_short seat_sends s
+    stands_in standing log s ≡ s → due_of r standing log s ≡ seat_due s.seat.phase s → grants None s ≡ unless_short seat_sends s
 sends_none standing log s None n a b e d =
-    sym (cond-false _ _ _ a ∙ cond-false _ _ _ b ∙ ap (λ (x : Hub.Due). seat_posts x.packet x.then s) (sym d) ∙ ap (λ (x : Pair). grants Idle x) e)
+    sym (cond-false _ _ _ a ∙ cond-false _ _ _ b ∙ ap (λ (x : Hub.Due). seat_posts x.packet x.then s) (sym d) ∙ ap (λ (x : Pair). grants None x) e)
 sends_none standing log s (Some x) n a b e d = absurd (n x refl)

@@ -15,21 +15,20 @@ ghost use Rattle.seat.specs.Ends.{side_of, answered, unless_short};
 use crate::seats::Seat;
 use fault::Refusal;
 use framing::post;
-use layout::{LogoutReason, PACKET_LIMIT};
+use layout::{Letter, LogoutReason, PACKET_LIMIT};
 use line::Line;
 use message_log::Log;
 use packet::Packet;
-use rules::Sent;
 
 impl Seat {
-    /// Writes what is due, if anything is: a heartbeat, or in a fetch the request, once. Refuses by `ShortBuffer`,
-    /// by `WrongPhase` where there is no connection, and by `LineFull`; a refusal changes nothing.
+    /// Writes what is due, if anything is: a heartbeat, or in a fetch the request, once; and answers the letter that
+    /// was written. Refuses by `ShortBuffer`, by `WrongPhase` where there is no connection, and by `LineFull`; a refusal changes nothing.
     pub fn send<G: Log, U: Line>(
         &mut self,
         log: &G,
         up: &mut U,
         out: &mut [u8],
-    ) -> Result<Sent, Refusal>
+    ) -> Result<Option<Letter>, Refusal>
         ensures { (down : LineView) (account : Account) (frame : List ℕ) → answered result (side_of self.new (G.Log.view log.now) (U.Line.view up.new) down account frame out.new) ≡ unless_short seat_sends (side_of self.old (G.Log.view log.now) (U.Line.view up.old) down account frame out.old) }
     {
         if out.len() < PACKET_LIMIT {
@@ -39,11 +38,11 @@ impl Seat {
             return Err(Refusal::WrongPhase);
         }
         let Some(due) = self.standing.due(self.unsent, log) else {
-            return Ok(Sent::Idle);
+            return Ok(None);
         };
         self.write(due.packet, up, out)?;
         self.standing.set_requested(due.requested);
-        Ok(Sent::Wrote(due.packet.letter()))
+        Ok(Some(due.packet.letter()))
     }
 
     // Writes a packet, if the line has the room for it.

@@ -1,4 +1,4 @@
-use Rattle.std.proofs.Common.{◌≡◌, false, length, Ok, Err, Result, sym, refl, ap, ◌∙◌, arith}
+use Rattle.std.proofs.Common.{◌≡◌, false, length, Ok, Err, Result, sym, refl, ap, ◌∙◌, arith, Some, Option}
 use Rattle.std.proofs.lemmas.Result.{err_from_is_err_and}
 use Rattle.std.proofs.lemmas.Bool.{cond-true, cond-false, le-ltb}
 use Rattle.fault.specs.declared.refusals.Refusal.{Refusal}
@@ -7,8 +7,6 @@ use Rattle.layout.specs.declared.letters.Letter.{Letter}
 use Rattle.layout.specs.Limits.{packet_limit}
 use Rattle.packet.specs.Meanings.{value_of}
 use Rattle.packet.specs.Values.{letter}
-use Rattle.rules.specs.declared.answers.Sent.{Sent}
-use Rattle.rules.specs.declared.answers.Sent.TheVariants.{Wrote}
 use Rattle.rules.specs.State.{Pair}
 use Rattle.rules.specs.Rounds.{too_short}
 use Rattle.seat.specs.Ends.{side_of, answered}
@@ -35,8 +33,8 @@ returns-in_err-write g c down account frame =
     let short : too_short out ≡ false = le-ltb (length out) packet_limit (omega arith) in
     let q = roomy_refused v up c.in_err-write.field-0.0 (sym c.write.ensures.answer ∙ c.in_err-write.was) in
     let r = err_from_is_err_and c.from_residual.result c.from_residual.ensures.1 in
-    ap (λ (a : Result Sent Refusal). answered a t) (r.1 ∙ ap (λ (y : Refusal). Err y) (r.2 ∙ q.1))
-    ∙ ap (λ (x : Pair). answered {R = Sent} (Err LineFull) x) (c.write.ensures.after log down account frame ∙ cond-false _ _ _ q.0)
+    ap (λ (a : Result (Option Letter) Refusal). answered a t) (r.1 ∙ ap (λ (y : Refusal). Err y) (r.2 ∙ q.1))
+    ∙ ap (λ (x : Pair). answered {R = Option Letter} (Err LineFull) x) (c.write.ensures.after log down account frame ∙ cond-false _ _ _ q.0)
     ∙ sym (sends_refused s (requested_in c.in-Some.due.requested s) v short (sym c.is_apart.ensures ∙ c.if-is_apart.false) (c.in-Some.ensures.due s refl) q.0)
 
 pub returns : goal.returns
@@ -50,7 +48,7 @@ returns g c down account frame =
     let t = side_of c.write.new.self log (g.U.Line.view c.write.new.up) down account frame c.write.new.out in
     let short : too_short out ≡ false = le-ltb (length out) packet_limit (omega arith) in
     let f = roomy_granted v up c.in_ok-write.field-0 (sym c.write.ensures.answer ∙ c.in_ok-write.was) in
-    ap (λ (x : Standing). answered {R = Sent} (Ok (Wrote c.letter.result)) (side_of (record { standing = x; filled = c.write.new.self.filled; unsent = c.write.new.self.unsent; silent = c.write.new.self.silent }) log (g.U.Line.view c.write.new.up) down account frame c.write.new.out)) c.set_requested.ensures
-    ∙ ap (λ (l : Letter). answered {R = Sent} (Ok (Wrote l)) (requested_in requested t)) c.letter.ensures
-    ∙ ap (λ (x : Pair). answered {R = Sent} (Ok (Wrote (letter v))) (requested_in requested x)) (c.write.ensures.after log down account frame ∙ cond-true _ _ _ f)
+    ap (λ (x : Standing). answered {R = Option Letter} (Ok (Some c.letter.result)) (side_of (record { standing = x; filled = c.write.new.self.filled; unsent = c.write.new.self.unsent; silent = c.write.new.self.silent }) log (g.U.Line.view c.write.new.up) down account frame c.write.new.out)) c.set_requested.ensures
+    ∙ ap (λ (l : Letter). answered {R = Option Letter} (Ok (Some l)) (requested_in requested t)) c.letter.ensures
+    ∙ ap (λ (x : Pair). answered {R = Option Letter} (Ok (Some (letter v))) (requested_in requested x)) (c.write.ensures.after log down account frame ∙ cond-true _ _ _ f)
     ∙ sym (sends_granted s (requested_in requested s) v short (sym c.is_apart.ensures ∙ c.if-is_apart.false) (c.in-Some.ensures.due s refl) f)
