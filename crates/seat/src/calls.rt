@@ -140,9 +140,5 @@ fn has_room<U: Line>(packet: Packet<'_>, up: &U) -> bool
 fn one_more(count: u16) -> u16
     ensures { result ≡ one_more count }
 {
-    if count < COUNT_LIMIT {
-        count + 1
-    } else {
-        COUNT_LIMIT
-    }
+    count.saturating_add(1).min(COUNT_LIMIT)
 }

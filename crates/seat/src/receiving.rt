@@ -15,7 +15,6 @@ use framing::{fill, judge};
 use layout::{LogoutReason, PACKET_LIMIT};
 use line::{Line, SteadyLine};
 use message_log::Log;
-use packet::Read;
 use rules::Received;
 
 impl Seat {
@@ -74,11 +73,11 @@ impl Seat {
         self.filled = 0;
         self.silent = 0;
         match judge(&frame[0..filled], self.standing.letters())? {
-            Read::Part => {
+            None => {
                 self.filled = filled;
                 Ok(Received::Part)
             }
-            Read::Whole(packet) => self.standing.act(packet, log),
+            Some(packet) => self.standing.act(packet, log),
         }
     }
 }

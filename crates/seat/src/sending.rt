@@ -21,8 +21,9 @@ use message_log::Log;
 use packet::Packet;
 
 impl Seat {
-    /// Writes what is due, if anything is: a heartbeat, or in a fetch the request, once; and answers the letter that
-    /// was written. Refuses by `ShortBuffer`, by `WrongPhase` where there is no connection, and by `LineFull`; a refusal changes nothing.
+    /// Writes what is due, if anything is: a heartbeat, or in a fetch the request, once; and answers its letter.
+    /// Refuses by `ShortBuffer`, by `WrongPhase` where there is no connection, and by `LineFull`; a refusal changes
+    /// nothing.
     pub fn send<G: Log, U: Line>(
         &mut self,
         log: &G,

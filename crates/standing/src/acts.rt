@@ -94,10 +94,7 @@ fn keep<G: Log>(message: &[u8], log: &mut G) -> Result<(), LogFault>
     ensures answer { result ≡ kept (takes (G.Log.view log.old) (length message.now)) }
     ensures after { G.Log.view log.new ≡ settled (takes (G.Log.view log.old) (length message.now)) (added (G.Log.view log.old) message.now) (G.Log.view log.old) }
 {
-    match log.append(message) {
-        Ok(()) => Ok(()),
-        Err(_) => Err(LogFault::Full),
-    }
+    log.append(message).map_err(|_| LogFault::Full)
 }
 
 // Whether an accepted response may bear this session: the one asked for, and any but 0 where 0 was asked for.

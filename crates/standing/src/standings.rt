@@ -58,9 +58,7 @@ impl Standing {
             session,
             number,
             fetch,
-            requested: false,
-            in_step: false,
-            status: None,
+            ..Standing::new()
         }
     }
 
@@ -89,10 +87,7 @@ impl Standing {
     pub fn is_apart(&self) -> bool
         ensures { result ≡ is_apart self.now.phase }
     {
-        match self.phase {
-            SeatPhase::Apart => true,
-            SeatPhase::Asking | SeatPhase::Live => false,
-        }
+        matches!(self.phase, SeatPhase::Apart)
     }
 
     /// The letters that it takes in its phase.

@@ -1,8 +1,8 @@
-use Rattle.std.proofs.Common.{◌+◌, ◌-◌, List, take, Ok, Err, Result, sym, ap, ◌∙◌}
+use Rattle.std.proofs.Common.{◌+◌, ◌-◌, List, take, Ok, Err, Option, Result, sym, ap, ◌∙◌}
 use Rattle.std.proofs.lemmas.Result.{err_from_is_err_and}
 use Rattle.fault.specs.declared.faults.Fault.{Fault}
 use Rattle.layout.specs.declared.letters.Letter.{Letter}
-use Rattle.packet.specs.declared.reading.Read.{Read}
+use Rattle.packet.specs.declared.packets.Packet.{Packet}
 use Rattle.packet.specs.Decoding.{part, whole}
 use Rattle.packet.specs.Meanings.{answer_of, value_of}
 use Rattle.rules.specs.declared.answers.Received.{Received}
@@ -46,8 +46,8 @@ returns-in_err-judge g c =
       fewer = fewer_any c.from_residual.result v w (fill_fewer v w buf buf' s.filled _ k c.if-count-eq0.false c.fill-count.ensures);
     }
 
-pub returns-in-Part : goal.returns-in-Part
-returns-in-Part g c =
+pub returns-in-None : goal.returns-in-None
+returns-in-None g c =
     let s = c.args.self.now in
     let v = g.D.Line.view c.args.down.now in
     let w = g.D.Line.view c.fill-count.new.line in
@@ -55,7 +55,7 @@ returns-in-Part g c =
     let buf' = c.fill-count.new.frame in
     let k = c.fill-count.result in
     let log = g.G.Log.view c.args.log.now in
-    let j = sym (ap answer_of (c.in_ok-judge.was ∙ ap (λ (x : Read). Ok x) c.in-Part.is)) ∙ c.judge.ensures ∙ ap (λ (l : List Letter). judged l (take (s.filled + k - 0) buf')) c.letters.ensures in
+    let j = sym (ap answer_of (c.in_ok-judge.was ∙ ap (λ (x : Option Packet). Ok x) c.in-None.is)) ∙ c.judge.ensures ∙ ap (λ (l : List Letter). judged l (take (s.filled + k - 0) buf')) c.letters.ensures in
     record {
       outcome = λ up account out.
           hears_judged s log up v w account buf buf' out k (Ok part) c.requires c.fill-count.ensures c.if-count-eq0.false j;
@@ -63,8 +63,8 @@ returns-in-Part g c =
       fewer = fill_fewer v w buf buf' s.filled _ k c.if-count-eq0.false c.fill-count.ensures;
     }
 
-pub returns-in-Whole : goal.returns-in-Whole
-returns-in-Whole g c =
+pub returns-in-Some : goal.returns-in-Some
+returns-in-Some g c =
     let s = c.args.self.now in
     let v = g.D.Line.view c.args.down.now in
     let w = g.D.Line.view c.fill-count.new.line in
@@ -72,8 +72,8 @@ returns-in-Whole g c =
     let buf' = c.fill-count.new.frame in
     let k = c.fill-count.result in
     let log = g.G.Log.view c.args.log.now in
-    let packet = c.in-Whole.packet in
-    let j = sym (ap answer_of (c.in_ok-judge.was ∙ ap (λ (x : Read). Ok x) c.in-Whole.is)) ∙ c.judge.ensures ∙ ap (λ (l : List Letter). judged l (take (s.filled + k - 0) buf')) c.letters.ensures in
+    let packet = c.in-Some.packet in
+    let j = sym (ap answer_of (c.in_ok-judge.was ∙ ap (λ (x : Option Packet). Ok x) c.in-Some.is)) ∙ c.judge.ensures ∙ ap (λ (l : List Letter). judged l (take (s.filled + k - 0) buf')) c.letters.ensures in
     record {
       outcome = λ up account out.
           c.act.ensures (side_of (taken 0 s) log up w account buf' out)
