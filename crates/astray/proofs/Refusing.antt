@@ -27,7 +27,7 @@ use Rattle.promises.specs.Runs.{begins, at_first, GrantedRounds, no_round, round
 use Rattle.promises.specs.Promises.{Level}
 use Rattle.astray.specs.Setting.{line_of, log_of, starting_with, fresh_buffers}
 use Rattle.astray.specs.Refusing.{Honest, NextNumberPasses, RefusingLocksOut, NarrowReceives, no_login, login, NarrowRounds, NarrowRules, rounds, refused_start, RefusingStrands}
-use Rattle.astray.proofs.Walks.{clash, Long, fresh_long, fronted_long, long_enough, roomier}
+use Rattle.astray.proofs.Walks.{Long, fresh_long, fronted_long, long_enough, roomier}
 use Rattle.astray.proofs.Starts.{set_up_lem}
 
 -- an invalid number is told only by the last check: the session passed, and the number did not
@@ -36,7 +36,7 @@ told true rest x n e = (refl, e)
 told false rest x n e = absurd (n e)
 
 told_last : (b : Bool) → cond b Accepted InvalidNumber ≡ InvalidNumber → b ≡ false
-told_last true e = clash (cc e)
+told_last true e = (cc e)
 told_last false e = refl
 
 number_fits : (how : How) (s : Pair) → Honest s → (eqb (asked_session how s.held) 0 || eqb (asked_session how s.held) s.running.log.session) ≡ true → asked_number how s.held ≤ count s.running.log + 1
@@ -52,11 +52,11 @@ number_fits (Fetch end) s h e = omega arith
 pub next_number_passes : NextNumberPasses
 next_number_passes how s h e =
     let row : Option ℕ = found s.rows s.account.user s.account.computer in
-    let a = told (bytes_eq (asked how s).version spoken_version) _ WrongVersion (λ q. clash (cc q)) e in
-    let b = told (of_row row (λ i. true)) _ UnknownUser (λ q. clash (cc q)) a.1 in
-    let c = told (of_row row (λ i. bytes_eq (row_at s.rows i).protocol s.account.protocol)) _ WrongProtocol (λ q. clash (cc q)) b.1 in
-    let d = told (of_row row (λ i. not (row_at s.rows i).marked)) _ AlreadyLoggedIn (λ q. clash (cc q)) c.1 in
-    let f = told (eqb (asked_session how s.held) 0 || eqb (asked_session how s.held) s.running.log.session) _ SessionUnavailable (λ q. clash (cc q)) d.1 in
+    let a = told (bytes_eq (asked how s).version spoken_version) _ WrongVersion (λ q. (cc q)) e in
+    let b = told (of_row row (λ i. true)) _ UnknownUser (λ q. (cc q)) a.1 in
+    let c = told (of_row row (λ i. bytes_eq (row_at s.rows i).protocol s.account.protocol)) _ WrongProtocol (λ q. (cc q)) b.1 in
+    let d = told (of_row row (λ i. not (row_at s.rows i).marked)) _ AlreadyLoggedIn (λ q. (cc q)) c.1 in
+    let f = told (eqb (asked_session how s.held) 0 || eqb (asked_session how s.held) s.running.log.session) _ SessionUnavailable (λ q. (cc q)) d.1 in
     let g : leb (asked_number how s.held) (count s.running.log + 1) ≡ false = told_last _ f.1 in
     omega (arith, leb-false _ _ g, number_fits how s h f.0)
 
@@ -103,10 +103,10 @@ hub_heard_lem : (b : Buffers) → Drains NarrowReceives (begun b) 1 None (login_
 unfolding encode decode
 hub_heard_lem b =
     more (begun b) (head_heard b) 0 1 None (login_heard b).after
-    (no_login _ (λ e. clash (cc e)) (hub_hears_bytes _ refl (roomier packet_limit 2 login_bytes (omega arith)))) refl
+    (no_login _ (λ e. (cc e)) (hub_hears_bytes _ refl (roomier packet_limit 2 login_bytes (omega arith)))) refl
     (more (head_heard b).after (login_heard b) 1 0 None (login_heard b).after
     (login _ (asked Anew refused_start) refl (roomier packet_limit 36 (drop 2 login_bytes) (omega arith)) refl) refl
-    (ends (login_heard b).after (refuses WrongPhase (login_heard b).after) None (no_login _ (λ e. clash (cc e)) (hub_deaf refl)) refl))
+    (ends (login_heard b).after (refuses WrongPhase (login_heard b).after) None (no_login _ (λ e. (cc e)) (hub_deaf refl)) refl))
 
 seat_heard_lem : (b : Buffers) → Drains SeatReceives (sent_back b) 1 None (rejected b).after
 unfolding encode decode
@@ -137,4 +137,4 @@ refusing_strands promise =
     (set_up_lem [] packet_limit fresh_buffers (omega arith) (omega arith) (omega arith) tt, begins)
     (record { no_fetch = refl; accepted = refl; room = omega arith; places = omega arith })
     (one_round fresh_buffers fresh_long) in
-    clash (cc e.session)
+    (cc e.session)

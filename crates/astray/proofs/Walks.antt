@@ -19,10 +19,6 @@ use Rattle.promises.specs.Book.{Message}
 use Rattle.promises.specs.Runs.{World, stepped, Run, goes_on}
 use Rattle.astray.specs.Setting.{line_of, fresh_buffers}
 
--- from what cannot be
-pub clash : {X : Type 0} → ◌≡◌ {A = ℕ} 0 1 → X
-clash e = absurd (omega arith)
-
 pub record Long (b : Buffers) : Type 0 where
   pub hub : packet_limit ≤ length b.hub_frame
   pub seat : packet_limit ≤ length b.seat_frame
@@ -105,7 +101,7 @@ module _ {Rules : Pair → Call → Deed → Type 0} {start : World} (ruled : (s
   hub_takes_lem f g room frame got same hears free is r =
       goes f g HubReceive (λ b. hub_heard room (f b).pair) (hub_got frame got)
       (λ b l. record { hub = laid_long packet_limit b.hub_frame (length frame) got l.hub; seat = l.seat; out = l.out })
-      (λ b l. ruled (f b).pair HubReceive (hub_heard room (f b).pair) (λ how e. clash (cc e))
+      (λ b l. ruled (f b).pair HubReceive (hub_heard room (f b).pair) (λ how e. (cc e))
       (hub_receives _ (subst (λ (x : Buffers). (too_short x.hub_frame || too_short x.out) ≡ false) (sym (same b)) (or_from _ _ (long_enough b.hub_frame l.hub) (long_enough b.out l.out)))
       (hub_hears_bytes room (hears b) (free b))))
       is r
@@ -118,7 +114,7 @@ module _ {Rules : Pair → Call → Deed → Type 0} {start : World} (ruled : (s
   seat_takes_lem f g room frame got same hears free is r =
       goes f g SeatReceive (λ b. seat_heard room (f b).pair) (seat_got frame got)
       (λ b l. record { hub = l.hub; seat = laid_long packet_limit b.seat_frame (length frame) got l.seat; out = l.out })
-      (λ b l. ruled (f b).pair SeatReceive (seat_heard room (f b).pair) (λ how e. clash (cc e))
+      (λ b l. ruled (f b).pair SeatReceive (seat_heard room (f b).pair) (λ how e. (cc e))
       (seat_receives _ (subst (λ (x : Buffers). (too_short x.seat_frame || too_short x.out) ≡ false) (sym (same b)) (or_from _ _ (long_enough b.seat_frame l.seat) (long_enough b.out l.out)))
       (seat_hears_bytes room (hears b) (free b))))
       is r
@@ -135,8 +131,8 @@ module _ {Rules : Pair → Call → Deed → Type 0} {start : World} (ruled : (s
 
   pub hub_writes_lem : (f g : Buffers → World) (v : Value) → ((b : Buffers) → (f b).pair.buffers ≡ b) →
       ((b : Buffers) → stepped (f b) HubSend (hub_sent (f b).pair) ≡ g (wrote v b)) → Reached Rules start f → Reached Rules start g
-  hub_writes_lem f g v same is r = writes f g HubSend (λ b. hub_sent (f b).pair) v same (λ b e. ruled _ _ _ (λ how q. clash (cc q)) (hub_sends_one e)) is r
+  hub_writes_lem f g v same is r = writes f g HubSend (λ b. hub_sent (f b).pair) v same (λ b e. ruled _ _ _ (λ how q. (cc q)) (hub_sends_one e)) is r
 
   pub hub_publishes : (f g : Buffers → World) (m : Message) → ((b : Buffers) → stepped (f b) (Publish m) (did (publish m (f b).pair)) ≡ g b) →
       Reached Rules start f → Reached Rules start g
-  hub_publishes f g m is r = goes f g (Publish m) (λ b. did (publish m (f b).pair)) (λ b. b) (λ b l. l) (λ b l. ruled _ _ _ (λ how q. clash (cc q)) (publishes m)) is r
+  hub_publishes f g m is r = goes f g (Publish m) (λ b. did (publish m (f b).pair)) (λ b. b) (λ b l. l) (λ b l. ruled _ _ _ (λ how q. (cc q)) (publishes m)) is r

@@ -162,6 +162,7 @@ impl Fault {
     }
 }
 
+// Written out and not derived: the contract of a caller says which fault `?` makes, and a derived `From` has none.
 impl From<PacketFault> for Fault {
     ghost from_gives = { λ f r. r ≡ F.Packet f };
 

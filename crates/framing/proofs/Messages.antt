@@ -13,16 +13,13 @@ use Rattle.message_log.specs.Meaning.{Meaning, nth}
 use Rattle.message_log.specs.Calls.{has, measured, reads, settled, fronted}
 use Rattle.framing.specs.Posting.{posting_message, roomy}
 
-clash : {A : Type 0} → ◌≡◌ {A = ℕ} 0 1 → A
-clash e = absurd (omega arith)
-
 pub message_size : (n : ℕ) (m : List ℕ) → length (encode (sequenced n m)) ≡ length m + 11
 unfolding encode
 message_size n m = omega arith
 
 -- a message whose length is told is held
 pub held : (l : Meaning) (n k : ℕ) → Ok k ≡ measured l n → (has l n ≡ true) × (k ≡ length (nth l n))
-held l n k e = cut (has l n) (Ok (length (nth l n))) _ (Ok k) _ (λ t x. (t, (cc))) (λ t x. clash (cc)) (sym e)
+held l n k e = cut (has l n) (Ok (length (nth l n))) _ (Ok k) _ (λ t x. (t, (cc))) (λ t x. (cc)) (sym e)
 
 -- a message that is held goes where there is room, by a buffer that is long enough
 pub message_posting : (l : Meaning) (n : ℕ) (d : LineView) (room : ℕ) → has l n ≡ true → packet_limit ≤ room → posting_message l n d room ≡ roomy (sequenced n (nth l n)) d

@@ -15,22 +15,19 @@ use Rattle.line.specs.Lines.{LineView, Put, joined, fits}
 use Rattle.message_log.specs.Calls.{settled, fronted}
 use Rattle.framing.specs.Posting.{Posted, posting, roomy, went}
 
-clash : {A : Type 0} → ◌≡◌ {A = ℕ} 0 1 → A
-clash e = absurd (omega arith)
-
 -- a granted writing counts the packet
 granted_size : (v : Value) (r : Result ℕ PacketFault) (n : ℕ) → (r ≡ Ok (length_number v) → n ≡ length_number v + 2) → granting r ≡ Ok n → r ≡ writable v → n ≡ length_number v + 2
 granted_size v (Ok k) n f e w =
-    cut (ltb length_limit (length_number v)) _ _ (Ok k) _ (λ t x. clash (cc))
+    cut (ltb length_limit (length_number v)) _ _ (Ok k) _ (λ t x. (cc))
     (λ t. cut (allowed (letter v) (length_number v)) _ _ (Ok k) _
-    (λ u. cut (widths v) _ _ (Ok k) _ (λ y x. f (sym x)) (λ y x. clash (cc)))
-    (λ u x. clash (cc)))
+    (λ u. cut (widths v) _ _ (Ok k) _ (λ y x. f (sym x)) (λ y x. (cc)))
+    (λ u x. (cc)))
     (sym w)
-granted_size v (Err fault) n f e w = clash (cc)
+granted_size v (Err fault) n f e w = (cc)
 
 pub written_size : (v : Value) (room n : ℕ) → writing v room ≡ Ok n → n ≡ length (encode v)
 written_size v room n e =
-    cut (ltb room (length_number v + 2)) _ _ (Ok n) _ (λ t x. clash (cc))
+    cut (ltb room (length_number v + 2)) _ _ (Ok n) _ (λ t x. (cc))
     (λ t x. granted_size v (writable v) n (λ q. let y : granting (Ok (length_number v)) ≡ Ok n = ap granting (sym q) ∙ x in cc) x refl)
     e
     ∙ sym (length_encode v)

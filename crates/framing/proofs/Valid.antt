@@ -1,13 +1,10 @@
 -- What can be written and fits a buffer of the longest packet is refused for the room alone.
-use Rattle.std.proofs.Common.{◌≡◌, ℕ, ◌+◌, ◌^◌, ◌<◌, ◌≤◌, true, cond, List, length, Ok, Err, Result, ap, ◌∙◌, arith}
-use Rattle.std.proofs.lemmas.Bool.{le-ltb, le-leb, and_from, cond-false}
+use Rattle.std.proofs.Common.{◌≡◌, ℕ, ◌+◌, ◌≤◌, cond, Ok, Err, Result, ap, ◌∙◌, arith}
+use Rattle.std.proofs.lemmas.Bool.{le-ltb, cond-false}
 use Rattle.fault.specs.declared.refusals.Refusal.{Refusal}
 use Rattle.fault.specs.declared.refusals.Refusal.TheVariants.{LineFull}
-use Rattle.layout.specs.Letters.{shortest, longest, allowed}
-use Rattle.layout.specs.Limits.{message_limit, packet_limit}
-use Rattle.layout.specs.declared.letters.Letter.{Letter}
-use Rattle.layout.specs.declared.letters.Letter.TheVariants as L
-use Rattle.packet.specs.Values.{Value, Valid, encode, letter, length_number, sequenced, unsequenced}
+use Rattle.layout.specs.Limits.{packet_limit}
+use Rattle.packet.specs.Values.{Value, Valid, encode, letter, length_number}
 use Rattle.packet.specs.Writing.{writing, granting}
 use Rattle.packet.proofs.Framing.{within}
 use Rattle.packet.proofs.Writes.{writable_valid}
@@ -22,12 +19,3 @@ writing_valid v room h l =
 -- the room alone decides
 pub posting_valid : (v : Value) (d : LineView) (room : ℕ) → Valid v → packet_limit ≤ room → posting v d room ≡ roomy v d
 posting_valid v d room h l = ap (λ (r : Result ℕ Refusal). cond (fits d (encode v)) (went r) (Err LineFull)) (writing_valid v room h l)
-
-in_range : (l : Letter) (n : ℕ) → shortest l ≤ n → n ≤ longest l → allowed l n ≡ true
-in_range l n a b = and_from _ _ (le-leb (shortest l) n a) (le-leb n (longest l) b)
-
-pub sequenced_valid : (n : ℕ) (m : List ℕ) → n < 256 ^ 8 → length m ≤ message_limit → Valid (sequenced n m)
-sequenced_valid n m l k = record { fields = l; fits = in_range L.Sequenced (length_number (sequenced n m)) (omega arith) (omega arith) }
-
-pub unsequenced_valid : (m : List ℕ) → length m ≤ message_limit → Valid (unsequenced m)
-unsequenced_valid m k = record { fields = tt; fits = in_range L.Unsequenced (length_number (unsequenced m)) (omega arith) (omega arith) }

@@ -21,7 +21,7 @@ cut false x y z P f g e = g refl e
 
 -- of every code: the byte that was read is the byte of the case
 pub coded_byte : {X : Type 0} (byte_of : X → ℕ) (fault : PacketFault) (xs : List X) (b : ℕ) (x : X) → coded byte_of fault xs b ≡ Ok x → b ≡ byte_of x
-coded_byte byte_of fault [] b x e = let z : ◌≡◌ {A = ℕ} 0 1 = cc in absurd (omega arith)
+coded_byte byte_of fault [] b x e = cc
 coded_byte byte_of fault (y ∷ ys) b x e =
     cut (eqb b (byte_of y)) _ _ _ (b ≡ byte_of x)
     (λ t h. let same : y ≡ x = cc in eqb-true b (byte_of y) t ∙ ap byte_of same)
@@ -32,7 +32,7 @@ coded_byte byte_of fault (y ∷ ys) b x e =
 pub coded_fault : {X : Type 0} (byte_of : X → ℕ) (fault : PacketFault) (xs : List X) (b : ℕ) (q : PacketFault) → coded byte_of fault xs b ≡ Err q → fault ≡ q
 coded_fault byte_of fault [] b q e = cc
 coded_fault byte_of fault (y ∷ ys) b q e =
-    cut (eqb b (byte_of y)) _ _ _ (fault ≡ q) (λ t h. let z : ◌≡◌ {A = ℕ} 0 1 = cc in absurd (omega arith))
+    cut (eqb b (byte_of y)) _ _ _ (fault ≡ q) (λ t h. cc)
     (λ t h. coded_fault byte_of fault ys b q h)
     e
 

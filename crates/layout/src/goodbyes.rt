@@ -5,7 +5,7 @@ ghost use Rattle.layout.specs.Codes.{good_bye_byte, good_bye_of};
 use fault::{Field, PacketFault};
 use std::fmt;
 
-/// Why a hub says GoodBye.
+/// Why a hub says GoodBye. A type of its own beside `LogoutReason`, since no GoodBye says `Done`.
 #[derive(Clone, Copy, PartialEq, Eq, Debug)]
 pub enum GoodByeReason {
     BadPacket = b'B' as isize,

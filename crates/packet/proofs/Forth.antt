@@ -23,7 +23,7 @@ use Rattle.packet.proofs.Framing.{Within, within}
 -- a step that went on
 pub took : {X Y : Type 0} (r : Result X PacketFault) (f : X → Result Y PacketFault) (y : Y) (P : Type 0) → ((x : X) → r ≡ Ok x → f x ≡ Ok y → P) → next r f ≡ Ok y → P
 took (Ok x) f y P g e = g x refl e
-took (Err q) f y P g e = let z : ◌≡◌ {A = ℕ} 0 1 = cc in absurd (omega arith)
+took (Err q) f y P g e = cc
 
 -- a list from k on: its next w, and what follows them
 piece : (b : List ℕ) (k w : ℕ) → drop k b ≡ take w (drop k b) ++ drop (k + w) b
@@ -145,7 +145,7 @@ opened_forth k b v s =
       body_is = f.body_is;
       valid = record { fields = f.fields; fits = ap (λ (i : ℕ). allowed (letter v) i) (sym size) ∙ ap (λ (x : Letter). allowed x (length b + 1)) (sym same) ∙ t };
     })
-    (λ t e. let z : ◌≡◌ {A = ℕ} 0 1 = cc in absurd (omega arith)))
+    (λ t e. cc))
 
 -- what `decode` found before it said that a packet is there
 pub record Parts (bs : List ℕ) (v : Value) : Type 0 where
@@ -159,16 +159,16 @@ pub record Parts (bs : List ℕ) (v : Value) : Type 0 where
 
 pub counted_forth : (m n : ℕ) → counted m ≡ Ok n → (n ≡ m) × (0 < m) × (m ≤ length_limit)
 counted_forth m n =
-    cut (eqb m 0) _ _ (Ok n) _ (λ t e. let z : ◌≡◌ {A = ℕ} 0 1 = cc in absurd (omega arith))
-    (λ t. cut (ltb length_limit m) _ _ (Ok n) _ (λ u e. let z : ◌≡◌ {A = ℕ} 0 1 = cc in absurd (omega arith))
+    cut (eqb m 0) _ _ (Ok n) _ (λ t e. cc)
+    (λ t. cut (ltb length_limit m) _ _ (Ok n) _ (λ u e. cc)
     (λ u e. let q : n ≡ m = cc in (q, omega (arith, eqb-false m 0 t), ltb-false length_limit m u)))
 
 pub parts : (bs : List ℕ) (v : Value) → decode bs ≡ Ok (whole v) → Parts bs v
 unfolding decode
 parts bs v =
-    cut (ltb (length bs) 2) _ _ (Ok (whole v)) (Parts bs v) (λ t q. let z : ◌≡◌ {A = ℕ} 0 1 = cc in absurd (omega arith))
+    cut (ltb (length bs) 2) _ _ (Ok (whole v)) (Parts bs v) (λ t q. cc)
     (λ t. took (counted (head_number bs)) _ (whole v) (Parts bs v)
-    (λ n r. cut (ltb (length bs) (n + 2)) _ _ (Ok (whole v)) (Parts bs v) (λ u q. let z : ◌≡◌ {A = ℕ} 0 1 = cc in absurd (omega arith))
+    (λ n r. cut (ltb (length bs) (n + 2)) _ _ (Ok (whole v)) (Parts bs v) (λ u q. cc)
     (λ u. took (opened (get_or bs 2 0) (take (n - 1) (drop 3 bs))) _ (whole v) (Parts bs v)
     (λ w x y. let m = counted_forth (head_number bs) n r in
     let g : w ≡ v = cc in

@@ -112,7 +112,7 @@ module _ (q : PacketFault) where
   phaseless_at p h e = subst Phaseless e h
 
   fine : {X : Type 0} (x : X) → ◌≡◌ {A = Result X PacketFault} (Ok x) (Err q) → Phaseless q
-  fine x e = let z : ◌≡◌ {A = ℕ} 0 1 = cc in absurd (omega arith)
+  fine x e = cc
 
   this : {X : Type 0} (p : PacketFault) → Phaseless p → ◌≡◌ {A = Result X PacketFault} (Err p) (Err q) → Phaseless q
   this p h e = let same : p ≡ q = cc in phaseless_at p h same

@@ -33,18 +33,18 @@ length_of_encode v rest h =
 pub length_fault : (bs : List ℕ) (fault : PacketFault) → packet_length bs ≡ Err fault → decode bs ≡ Err fault
 unfolding packet_length
 length_fault bs fault =
-    cut (ltb (length bs) 2) _ _ (Err fault) _ (λ t e. let z : ◌≡◌ {A = ℕ} 0 1 = cc in absurd (omega arith))
+    cut (ltb (length bs) 2) _ _ (Err fault) _ (λ t e. cc)
     (λ t. let two : 2 ≤ length bs = ltb-false (length bs) 2 t in
     failed (counted (head_number bs)) _ fault (decode bs ≡ Err fault)
     (λ e. decode_head bs two ∙ ap (λ r. next r (bodied bs)) e)
-    (λ n q e. let z : ◌≡◌ {A = ℕ} 0 1 = cc in absurd (omega arith)))
+    (λ n q e. cc))
 
 -- no length number yet: a part
 pub length_none : (bs : List ℕ) → packet_length bs ≡ Ok None → decode bs ≡ Ok part
 unfolding packet_length
 length_none bs =
     cut (ltb (length bs) 2) _ _ (Ok None) _ (λ t e. decode_short bs (ltb-true (length bs) 2 t))
-    (λ t. took (counted (head_number bs)) _ None _ (λ n q e. let z : ◌≡◌ {A = ℕ} 0 1 = cc in absurd (omega arith)))
+    (λ t. took (counted (head_number bs)) _ None _ (λ n q e. cc))
 
 -- a part is shorter than the longest packet
 pub part_short : (bs : List ℕ) → decode bs ≡ Ok part → length bs < packet_limit
@@ -56,6 +56,6 @@ part_short bs e =
           (λ n q. let c = counted_forth (head_number bs) n q in
           cut (ltb (length bs) (n + 2)) (Ok part) (wholly (opened (get_or bs 2 0) (take (n - 1) (drop 3 bs)))) (Ok part) (length bs < packet_limit)
           (λ t u. omega (arith, ltb-true (length bs) (n + 2) t))
-          (λ t. took (opened (get_or bs 2 0) (take (n - 1) (drop 3 bs))) _ part (length bs < packet_limit) (λ v x y. let z : ◌≡◌ {A = ℕ} 0 1 = cc in absurd (omega arith))))
+          (λ t. took (opened (get_or bs 2 0) (take (n - 1) (drop 3 bs))) _ part (length bs < packet_limit) (λ v x y. cc)))
           (sym (decode_head bs h) ∙ e)
     ]

@@ -5,3 +5,4 @@ pub mod Fronts
 pub mod Laying
 pub mod Writes
 pub mod Lengths
+pub mod Valids

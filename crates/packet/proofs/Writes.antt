@@ -52,8 +52,7 @@ module _ (v : Value) (old new : List ℕ) where
         back = tt;
         beginnings = tt;
         unreadable = λ g r rest s d. let w : writable v ≡ Ok (length_number v) = writable_valid v (writes_back (encode v ++ rest) v s d).valid in
-            let z : ◌≡◌ {A = ℕ} 0 1 = cc in
-            absurd (omega arith);
+            cc;
       }
 
   pub granted : (n : ℕ) → Ok n ≡ writable v → n ≡ length_number v → Valid v → length_number v + 2 ≤ length old → new ≡ encode v ++ drop (n + 2) old → Written v old new (Ok (n + 2))
@@ -64,7 +63,7 @@ module _ (v : Value) (old new : List ℕ) where
         back = ap decode q ∙ reads_back v (drop (n + 2) old) valid;
         beginnings = λ i l. let t : take i new ≡ take i (encode v) = ap (take i) q ∙ take-append-le i (encode v) (drop (n + 2) old) (omega (arith, length_encode v)) in
             ap decode t ∙ beginnings_are_parts v i valid (omega (arith, length_encode v));
-        unreadable = λ g r. let z : ◌≡◌ {A = ℕ} 0 1 = cc in absurd (omega arith);
+        unreadable = λ g r. cc;
       }
 
 -- a head, and then a body behind it

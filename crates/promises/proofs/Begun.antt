@@ -17,17 +17,16 @@ use Rattle.rules.specs.Sides.{no_hub, no_seat}
 use Rattle.promises.specs.Book.{Message}
 use Rattle.promises.specs.Runs.{Begins, SetUp}
 use Rattle.promises.specs.Promises.{SetUpBegins}
-use Rattle.promises.proofs.Fronts.{clash}
 
 -- what is granted behind two tests
 past : {A : Type 0} (b c : Bool) (x y : Refusal) (r : Result A Refusal) (s : A) → cond b (Err x) (cond c r (Err y)) ≡ Ok s → (c ≡ true) × (r ≡ Ok s)
-past true c x y r s e = clash (cc)
+past true c x y r s e = (cc)
 past false true x y r s e = (refl, e)
-past false false x y r s e = clash (cc)
+past false false x y r s e = (cc)
 
 first_begins : (xs ys : List Message) → first_of xs ys ≡ true → Begins xs ys
 first_begins [] ys e = (ys, refl)
-first_begins (x ∷ xs) [] e = clash (cc)
+first_begins (x ∷ xs) [] e = (cc)
 first_begins (x ∷ xs) (y ∷ ys) e =
     let p = and_parts (bytes_eq x y) (first_of xs ys) e in
     let q : x ≡ y = (bytes_eq-Decides x y).0 p.0 in
@@ -65,7 +64,7 @@ widths u c p a =
       ap (λ (z : Account). length z.computer) q ∙ (judges_fields 8 c).fills h.0,
       ap (λ (z : Account). length z.protocol) q ∙ (judges_fields 8 p).fills h.1,
     ))
-    (λ t e. clash (cc))
+    (λ t e. (cc))
 
 pub set_up_begins : SetUpBegins
 set_up_begins g s hs ss us ds e = go (account_of g.user g.computer g.protocol) refl p.1
@@ -74,7 +73,7 @@ set_up_begins g s hs ss us ds e = go (account_of g.user g.computer g.protocol) r
     p = past (too_short g.buffers.hub_frame || (too_short g.buffers.seat_frame || too_short g.buffers.out)) (follows g.seat_log (started g.hub_log)) ShortBuffer SizeOutOfRange (made g (account_of g.user g.computer g.protocol)) s e
 
     go : (r : Result Account Refusal) → account_of g.user g.computer g.protocol ≡ r → made g r ≡ Ok s → SetUp s
-    go (Err x) f q = clash (cc)
+    go (Err x) f q = (cc)
     go (Ok a) f q =
         let w = widths g.user g.computer g.protocol a f in
         let l = started_sound g.hub_log hs in

@@ -39,7 +39,6 @@ use Rattle.rules.specs.Hub.{hub_gone, hub_bad, listens, hub_letters, decided, lo
 use Rattle.rules.specs.Seat.{seat_gone, seat_bad, is_apart, seat_letters, suits, in_session, next_number, seat_rejected, seat_answered, seat_keeps, seat_skips, seat_message, seat_complete, seat_acts, seat_judges, seat_hears, seat_requested, live_due, seat_due, seat_posts, seat_sends}
 use Rattle.rules.specs.Calls.{Done, done, login_of, connected, connect, publishes, publish, finish, busy, last_session, roll, is_serving, is_live, tell, say, leave, hub_timed, seat_timed, waiting_limit, silence_limit}
 use Rattle.rules.specs.Rounds.{HubReceives, hub_deaf, hub_hears_bytes, SeatReceives, seat_deaf, seat_hears_bytes}
-use Rattle.promises.proofs.Fronts.{clash}
 
 -- a call that is refused changes nothing; one that is granted leads to t
 pub data Tried (s t : Pair) (Fact : Type 0) : Done → Type 0 where
@@ -121,7 +120,7 @@ all_pass (c ∷ cs) n e =
     (cases_Bool c.passes)
 
 none_accepts : (rows : List Row) (row : Option ℕ) (x h : ℕ) (a : Asked) → All (λ c. c.status ≡ Accepted → ⊥) (checks rows row x h a)
-none_accepts rows row x h a = (λ e. clash (cc), (λ e. clash (cc), (λ e. clash (cc), (λ e. clash (cc), (λ e. clash (cc), (λ e. clash (cc), tt))))))
+none_accepts rows row x h a = (λ e. (cc), (λ e. (cc), (λ e. (cc), (λ e. (cc), (λ e. (cc), (λ e. (cc), tt))))))
 
 pub record Passed (rows : List Row) (x h : ℕ) (a : Asked) : Type 0 where
   pub row : ℕ
@@ -130,7 +129,7 @@ pub record Passed (rows : List Row) (x h : ℕ) (a : Asked) : Type 0 where
   pub number : a.number ≤ h + 1
 
 passed_by : (rows : List Row) (row : Option ℕ) (x h : ℕ) (a : Asked) → found rows a.user a.computer ≡ row → first_failing (checks rows row x h a) ≡ Accepted → Passed rows x h a
-passed_by rows None x h a f e = clash (cc (all_pass (checks rows None x h a) (none_accepts rows None x h a) e).1.0)
+passed_by rows None x h a f e = (cc (all_pass (checks rows None x h a) (none_accepts rows None x h a) e).1.0)
 passed_by rows (Some i) x h a f e =
     let p = all_pass (checks rows (Some i) x h a) (none_accepts rows (Some i) x h a) e in
     record {
@@ -168,12 +167,12 @@ login_acted s v u c p x n = go (status_for s.rows s.running.log.session (count s
     go Accepted e =
         let y = passed s.rows s.running.log.session (count s.running.log) (asks v u c p x n) e in
         subst (λ (o : Option ℕ). HubActed s Waiting (login_request v u c p x n) (grants (Acted L.LoginRequest) (admitted o n s))) (sym y.is) (hub_admits_lem v u c p x n y.row e)
-    go UnknownUser e = hub_rejects v u c p x n UnknownUser (λ z. clash (cc)) e
-    go SessionUnavailable e = hub_rejects v u c p x n SessionUnavailable (λ z. clash (cc)) e
-    go InvalidNumber e = hub_rejects v u c p x n InvalidNumber (λ z. clash (cc)) e
-    go WrongVersion e = hub_rejects v u c p x n WrongVersion (λ z. clash (cc)) e
-    go WrongProtocol e = hub_rejects v u c p x n WrongProtocol (λ z. clash (cc)) e
-    go AlreadyLoggedIn e = hub_rejects v u c p x n AlreadyLoggedIn (λ z. clash (cc)) e
+    go UnknownUser e = hub_rejects v u c p x n UnknownUser (λ z. (cc)) e
+    go SessionUnavailable e = hub_rejects v u c p x n SessionUnavailable (λ z. (cc)) e
+    go InvalidNumber e = hub_rejects v u c p x n InvalidNumber (λ z. (cc)) e
+    go WrongVersion e = hub_rejects v u c p x n WrongVersion (λ z. (cc)) e
+    go WrongProtocol e = hub_rejects v u c p x n WrongProtocol (λ z. (cc)) e
+    go AlreadyLoggedIn e = hub_rejects v u c p x n AlreadyLoggedIn (λ z. (cc)) e
 
 refills_acted : (s : Pair) (q n a e : ℕ) (d : Bool) → q ≡ 0 → HubActed s (Serving q n d) (retransmission_request a e) (refills a e s)
 refills_acted s q n a e d z =
@@ -200,7 +199,7 @@ hub_acted s (Rejecting t) v = hub_bad_lem _ _ _
 hub_acted s (Serving q n d) (login_request v u c p x k) = hub_bad_lem _ _ _
 hub_acted s (Serving q n d) (login_response t x k) = hub_bad_lem _ _ _
 hub_acted s (Serving q n d) (sequenced k m) = hub_bad_lem _ _ _
-hub_acted s (Serving q n d) (unsequenced m) = hub_stays _ _ _ (λ a e. clash (cc))
+hub_acted s (Serving q n d) (unsequenced m) = hub_stays _ _ _ (λ a e. (cc))
 hub_acted s (Serving q n d) synchronization_complete = hub_bad_lem _ _ _
 hub_acted s (Serving q n d) (retransmission_request a e) =
     cond_both (eqb q 0) (refills a e s) (hub_bad OutOfPlace s) (HubActed s _ _) (λ t. refills_acted s q n a e d (eqb-true _ _ t)) (λ t. hub_bad_lem _ _ _)
@@ -208,12 +207,12 @@ hub_acted s (Serving q n d) (logout_request r t) = hub_leaves_lem _ _ _
 hub_acted s (Serving q n d) (good_bye r t) = hub_bad_lem _ _ _
 hub_acted s (Serving q n d) end_of_session = hub_bad_lem _ _ _
 hub_acted s (Serving q n d) hub_heartbeat = hub_bad_lem _ _ _
-hub_acted s (Serving q n d) seat_heartbeat = hub_stays _ _ _ (λ a e. clash (cc))
-hub_acted s (Serving q n d) (test t) = hub_stays _ _ _ (λ a e. clash (cc))
+hub_acted s (Serving q n d) seat_heartbeat = hub_stays _ _ _ (λ a e. (cc))
+hub_acted s (Serving q n d) (test t) = hub_stays _ _ _ (λ a e. (cc))
 hub_acted s (Filling n l) (login_request v u c p x k) = hub_bad_lem _ _ _
 hub_acted s (Filling n l) (login_response t x k) = hub_bad_lem _ _ _
 hub_acted s (Filling n l) (sequenced k m) = hub_bad_lem _ _ _
-hub_acted s (Filling n l) (unsequenced m) = hub_stays _ _ _ (λ a e. clash (cc))
+hub_acted s (Filling n l) (unsequenced m) = hub_stays _ _ _ (λ a e. (cc))
 hub_acted s (Filling n l) synchronization_complete = hub_bad_lem _ _ _
 hub_acted s (Filling n l) (retransmission_request a e) = hub_bad_lem _ _ _
 hub_acted s (Filling n l) (logout_request r t) = hub_leaves_lem _ _ _
@@ -221,8 +220,8 @@ hub_acted s (Filling n l) (good_bye r t) = hub_bad_lem _ _ _
 hub_acted s (Filling n l) end_of_session = hub_bad_lem _ _ _
 hub_acted s (Filling n l) hub_heartbeat = hub_bad_lem _ _ _
 hub_acted s (Filling n l) seat_heartbeat =
-    cond_both (leb n l) s (hub_leaves Shut s) (λ t. HubActed s (Filling n l) seat_heartbeat (grants (Acted L.SeatHeartbeat) t)) (λ t. hub_stays _ _ _ (λ a e. clash (cc))) (λ t. hub_leaves_lem _ _ _)
-hub_acted s (Filling n l) (test t) = hub_stays _ _ _ (λ a e. clash (cc))
+    cond_both (leb n l) s (hub_leaves Shut s) (λ t. HubActed s (Filling n l) seat_heartbeat (grants (Acted L.SeatHeartbeat) t)) (λ t. hub_stays _ _ _ (λ a e. (cc))) (λ t. hub_leaves_lem _ _ _)
+hub_acted s (Filling n l) (test t) = hub_stays _ _ _ (λ a e. (cc))
 
 -- the hub receives
 pub data HubHeard (s : Pair) : Outcome Received → Type 0 where

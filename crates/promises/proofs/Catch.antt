@@ -36,9 +36,10 @@ use Rattle.rules.specs.Rounds.{HubReceives, SeatReceives, going, over, onward, D
 use Rattle.promises.specs.Book.{Message, Book}
 use Rattle.promises.specs.Runs.{Begins, Note, GrantedRounds, no_round, round}
 use Rattle.promises.specs.Promises.{Able, rounds_needed, Level}
-use Rattle.promises.proofs.Fronts.{clash, begins_length, begins_all, begins_next}
+use Rattle.promises.proofs.Fronts.{begins_length, begins_all, begins_next}
 use Rattle.promises.proofs.Frames.{Short, part_lacks}
-use Rattle.promises.proofs.Packets.{sesm, encode_fits, sequenced_valid, response_valid}
+use Rattle.promises.proofs.Packets.{sesm, encode_fits}
+use Rattle.packet.proofs.Valids.{sequenced_valid, response_valid}
 use Rattle.promises.proofs.Arrivals.{still_part, now_whole, no_fault}
 use Rattle.promises.proofs.Cases.{passed, asks, Took, got_within, HubHeard, hub_refused, hub_none, hub_part, hub_fault, hub_whole, hub_heard_lem, SeatHeard, seat_refused, seat_none, seat_part, seat_fault, seat_whole, seat_heard_lem}
 use Rattle.promises.proofs.Sound.{Sound, to_waiting}
@@ -101,7 +102,7 @@ pub data Out (v : Value) (F : ℕ) (s : Pair) : Outcome Received → Type 0 wher
 
 module _ (v : Value) (F : ℕ) (va : Valid v) where
   one_receive : (s : Pair) (o : Outcome Received) → is_apart s.seat.phase ≡ false → among (seat_letters s.seat.phase s.seat.fetch) (letter_byte (letter v)) ≡ true → On v F s → SeatHeard s o → Out v F s o
-  one_receive s _ na ta on (seat_refused ph) = clash (cc (na, ph))
+  one_receive s _ na ta on (seat_refused ph) = (cc (na, ph))
   one_receive s _ na ta on (seat_none d n tk) = absurd (no_silence v s.seat.frame s.down d va on.stream on.short on.limit tk)
   one_receive s _ na ta on (seat_part x xs d n tk ju) =
       let r = still_part (seat_letters s.seat.phase s.seat.fetch) s.seat.frame (x ∷ xs) d.waiting (v ∷ []) (ap (λ z. s.seat.frame ++ z) (sym tk.front) ∙ on.stream) on.short (va, tt) (omega arith) (got_within s.down (lack s.seat.frame) (x ∷ xs) d tk) ju in
@@ -122,17 +123,17 @@ pub record Dry (F : ℕ) (s : Pair) (o : Outcome Received) : Type 0 where
   pub same : core o.after ≡ core s
 
 dry_receive : (F : ℕ) (s : Pair) (o : Outcome Received) → is_apart s.seat.phase ≡ false → Off F s → SeatHeard s o → Dry F s o
-dry_receive F s _ na of (seat_refused ph) = clash (cc (na, ph))
+dry_receive F s _ na of (seat_refused ph) = (cc (na, ph))
 dry_receive F s _ na of (seat_none d n tk) =
     let e : d.waiting ≡ [] = sym tk.front ∙ of.dry in
     record { ends = refl; off = record { frame = of.frame; dry = e; room = tk.empty e ∙ tk.full ∙ of.full; full = tk.full ∙ of.full; limit = omega (arith, of.limit, tk.limit) }; same = refl }
-dry_receive F s _ na of (seat_part x xs d n tk ju) = clash (cc (tk.front, of.dry))
-dry_receive F s _ na of (seat_fault x xs d fault n tk ju) = clash (cc (tk.front, of.dry))
-dry_receive F s _ na of (seat_whole x xs d u n tk ju) = clash (cc (tk.front, of.dry))
+dry_receive F s _ na of (seat_part x xs d n tk ju) = (cc (tk.front, of.dry))
+dry_receive F s _ na of (seat_fault x xs d fault n tk ju) = (cc (tk.front, of.dry))
+dry_receive F s _ na of (seat_whole x xs d u n tk ju) = (cc (tk.front, of.dry))
 
 dry_drains : (F : ℕ) {s : Pair} {n : ℕ} {x : Option Fault} {t : Pair} → Drains SeatReceives s n x t → is_apart s.seat.phase ≡ false → Off F s → Off F t × (core t ≡ core s)
 dry_drains F (ends s o x r g) na of = let d = dry_receive F s o na of (seat_heard_lem s o r) in (d.off, d.same)
-dry_drains F (more s o k n x t r g e) na of = clash (cc (g, (dry_receive F s o na of (seat_heard_lem s o r)).ends))
+dry_drains F (more s o k n x t r g e) na of = (cc (g, (dry_receive F s o na of (seat_heard_lem s o r)).ends))
 
 -- the seat acts on the packet as a catch-up wants
 pub record Acts (e : Core) (u : Pair) (o : Outcome Received) : Type 0 where
@@ -151,8 +152,8 @@ module _ (v : Value) (F : ℕ) (va : Valid v) (c e : Core) (na : is_apart c.seat
   drains_on (ends s o x r g) cs on = go o g (one s o cs on r)
     where
       go : (o : Outcome Received) → going o.answer ≡ over x → Out v F s o → Off F o.after × (core o.after ≡ e)
-      go _ g (still o p q z) = clash (cc (g, p))
-      go _ g (acts b bs d of) = clash (cc (g, (act (seat_took (b ∷ bs) [] d s) cs).goes))
+      go _ g (still o p q z) = (cc (g, p))
+      go _ g (acts b bs d of) = (cc (g, (act (seat_took (b ∷ bs) [] d s) cs).goes))
   drains_on (more s o k n x t r g d) cs on = go o d (λ z q. drains_on d z q) (one s o cs on r)
     where
       go : (o : Outcome Received) → Drains SeatReceives o.after n x t → (core o.after ≡ c → On v F o.after → Off F t × (core t ≡ e)) → Out v F s o → Off F t × (core t ≡ e)
@@ -202,15 +203,15 @@ pub record HubDry (s : Pair) (t : Pair) : Type 0 where
   pub seat : t.seat ≡ s.seat
 
 hub_dry_receive : (s : Pair) (o : Outcome Received) → listens s.hub.phase ≡ true → s.up.waiting ≡ [] → HubHeard s o → (going o.answer ≡ over None) × HubDry s o.after
-hub_dry_receive s _ li dr (hub_refused l) = clash (cc (li, l))
+hub_dry_receive s _ li dr (hub_refused l) = (cc (li, l))
 hub_dry_receive s _ li dr (hub_none u l tk) = (refl, record { same = ap (up_core (core s)) (sym tk.front); down = refl; seat = refl })
-hub_dry_receive s _ li dr (hub_part x xs u l tk j) = clash (cc (tk.front, dr))
-hub_dry_receive s _ li dr (hub_fault x xs u fault l tk j) = clash (cc (tk.front, dr))
-hub_dry_receive s _ li dr (hub_whole x xs u v l tk j) = clash (cc (tk.front, dr))
+hub_dry_receive s _ li dr (hub_part x xs u l tk j) = (cc (tk.front, dr))
+hub_dry_receive s _ li dr (hub_fault x xs u fault l tk j) = (cc (tk.front, dr))
+hub_dry_receive s _ li dr (hub_whole x xs u v l tk j) = (cc (tk.front, dr))
 
 hub_dry_drains : {s : Pair} {n : ℕ} {x : Option Fault} {t : Pair} → Drains HubReceives s n x t → listens s.hub.phase ≡ true → s.up.waiting ≡ [] → HubDry s t
 hub_dry_drains (ends s o x r g) li dr = (hub_dry_receive s o li dr (hub_heard_lem s o r)).1
-hub_dry_drains (more s o k n x t r g e) li dr = clash (cc (g, (hub_dry_receive s o li dr (hub_heard_lem s o r)).0))
+hub_dry_drains (more s o k n x t r g e) li dr = (cc (g, (hub_dry_receive s o li dr (hub_heard_lem s o r)).0))
 
 -- the seat has nothing to send
 seat_rests : (s : Pair) → s.seat.fetch ≡ None → s.seat.unsent ≡ 0 → (seat_sends s).after ≡ s
@@ -329,7 +330,7 @@ pub record WentRound (s : Pair) (d : Deed) : Type 0 where
   pub does : Rounds s report wrote d.after
 
 granted_round : (s : Pair) (d : Deed) (p : Report) → Step s Round d → d.answer ≡ Went (Ok p) → WentRound s d
-granted_round s _ p (short_buffer _ e) g = clash (cc)
+granted_round s _ p (short_buffer _ e) g = (cc)
 granted_round s _ p (rounds q w t e r) g = record { report = q; wrote = w; does = r }
 
 module _ (F aq nu : ℕ) (k : Meaning) (wide : packet_limit ≤ F) (begun : 0 < k.session) (short : (i : ℕ) → length (get_or k.messages i []) ≤ message_limit) (few : count k ≤ size_limit) where
@@ -381,7 +382,7 @@ module _ (o : Pair) (u c p : List ℕ) (aq nu : ℕ) (va : Valid (login_request 
 
   -- a receive while the login is on its way
   hub_login : (s : Pair) (r : Outcome Received) → HubOn its o s → HubHeard s r → ((going r.answer ≡ onward 0) × HubOn its o r.after) ⊎ ((going r.answer ≡ onward 1) × HubOff nu o r.after)
-  hub_login s _ on (hub_refused l) = clash (cc (ap listens on.phase, l))
+  hub_login s _ on (hub_refused l) = (cc (ap listens on.phase, l))
   hub_login s _ on (hub_none d l tk) = absurd (no_silence its s.hub.frame s.up d va on.stream on.short on.limit tk)
   hub_login s _ on (hub_part x xs d l tk ju) =
       let r = still_part (hub_letters s.hub.phase) s.hub.frame (x ∷ xs) d.waiting (its ∷ []) (ap (λ z. s.hub.frame ++ z) (sym tk.front) ∙ on.stream) on.short (va, tt) (omega arith) (got_within s.up (lack s.hub.frame) (x ∷ xs) d tk) ju in
@@ -401,21 +402,21 @@ module _ (o : Pair) (u c p : List ℕ) (aq nu : ℕ) (va : Valid (login_request 
     where
       go : (r : Outcome Received) → HubHeard s r → r.after ≡ s
       go _ (hub_refused l) = refl
-      go _ (hub_none d l tk) = clash (cc (li, l))
-      go _ (hub_part y ys d l tk ju) = clash (cc (li, l))
-      go _ (hub_fault y ys d fault l tk ju) = clash (cc (li, l))
-      go _ (hub_whole y ys d v l tk ju) = clash (cc (li, l))
+      go _ (hub_none d l tk) = (cc (li, l))
+      go _ (hub_part y ys d l tk ju) = (cc (li, l))
+      go _ (hub_fault y ys d fault l tk ju) = (cc (li, l))
+      go _ (hub_whole y ys d v l tk ju) = (cc (li, l))
   deaf_drains (more s r k n x t h g e) li = go r g (hub_heard_lem s r h)
     where
       go : (r : Outcome Received) → going r.answer ≡ onward k → HubHeard s r → t ≡ s
-      go _ g (hub_refused l) = clash (cc)
-      go _ g (hub_none d l tk) = clash (cc (li, l))
-      go _ g (hub_part y ys d l tk ju) = clash (cc (li, l))
-      go _ g (hub_fault y ys d fault l tk ju) = clash (cc (li, l))
-      go _ g (hub_whole y ys d v l tk ju) = clash (cc (li, l))
+      go _ g (hub_refused l) = (cc)
+      go _ g (hub_none d l tk) = (cc (li, l))
+      go _ g (hub_part y ys d l tk ju) = (cc (li, l))
+      go _ g (hub_fault y ys d fault l tk ju) = (cc (li, l))
+      go _ g (hub_whole y ys d v l tk ju) = (cc (li, l))
 
   login_drains : {s : Pair} {n : ℕ} {x : Option Fault} {t : Pair} → Drains HubReceives s n x t → HubOn its o s → HubOff nu o t
-  login_drains (ends s r x h g) on = ⊎_elim (λ z. clash (cc (z.0, g))) (λ z. clash (cc (z.0, g))) (hub_login s r on (hub_heard_lem s r h))
+  login_drains (ends s r x h g) on = ⊎_elim (λ z. (cc (z.0, g))) (λ z. (cc (z.0, g))) (hub_login s r on (hub_heard_lem s r h))
   login_drains (more s r k n x t h g e) on =
       ⊎_elim
       (λ z. login_drains e z.1)

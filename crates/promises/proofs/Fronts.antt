@@ -5,12 +5,6 @@ use Rattle.std.proofs.lemmas.List.{append-nil, append_assoc, nil_from_length}
 use Rattle.promises.specs.Book.{Message}
 use Rattle.promises.specs.Runs.{Begins}
 
-pub never : ◌≡◌ {A = ℕ} 0 1 → ⊥
-never e = omega arith
-
-pub clash : {A : Type 0} → ◌≡◌ {A = ℕ} 0 1 → A
-clash e = absurd (never e)
-
 pub begins_refl : (xs : List Message) → Begins xs xs
 begins_refl xs = ([], sym (append-nil xs))
 
@@ -31,7 +25,7 @@ begins_all xs ys (r, e) l =
 
 -- what stands right behind a beginning
 pub begins_next : (xs rest : List Message) (v : Message) → slice_get (xs ++ rest) (length xs) ≡ Some v → Begins (xs ++ (v ∷ [])) (xs ++ rest)
-begins_next [] [] v e = clash (cc)
+begins_next [] [] v e = (cc)
 begins_next [] (y ∷ ys) v e = (ys, cc)
 begins_next (x ∷ xs) rest v e = let ih = begins_next xs rest v e in (ih.0, ap (λ l. x ∷ l) ih.1)
 
@@ -47,7 +41,7 @@ begins_shorter (x ∷ xs) (y ∷ ys) zs p q l =
     (ih.0, ap (λ z. z ∷ ys) a ∙ ap (λ z. x ∷ z) ih.1)
 
 pub nth_append : (xs ys : List Message) (i : ℕ) (v : Message) → slice_get xs i ≡ Some v → slice_get (xs ++ ys) i ≡ Some v
-nth_append [] ys i v e = clash (cc)
+nth_append [] ys i v e = (cc)
 nth_append (x ∷ xs) ys zero v e = e
 nth_append (x ∷ xs) ys (suc i) v e = nth_append xs ys i v e
 

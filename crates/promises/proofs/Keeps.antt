@@ -34,9 +34,10 @@ use Rattle.rules.specs.Rounds.{HubReceives, SeatReceives, Drains, ends, more, Ro
 use Rattle.promises.specs.Book.{Message, Book, opened, added, turned, noted}
 use Rattle.promises.specs.Runs.{Begins, World, Run, begins, goes_on, SetUp, History}
 use Rattle.promises.specs.Promises.{NeverWrong, NeverShorter}
-use Rattle.promises.proofs.Fronts.{clash, begins_push, begins_next}
+use Rattle.promises.proofs.Fronts.{begins_push, begins_next}
 use Rattle.promises.proofs.Frames.{short_nil}
-use Rattle.promises.proofs.Packets.{sesm, sequenced_valid, unsequenced_valid, response_valid}
+use Rattle.promises.proofs.Packets.{sesm}
+use Rattle.packet.proofs.Valids.{sequenced_valid, unsequenced_valid, response_valid}
 use Rattle.promises.proofs.Arrivals.{still_part, now_whole}
 use Rattle.promises.proofs.Cases.{Tried, refused, granted, connect_tried, publish_tried, finish_tried, roll_tried, tell_tried, say_tried, leave_tried, Took, got_within, HubActed, hub_bad_lem, hub_admits_lem, hub_rejects, hub_refills, hub_leaves_lem, hub_stays, hub_acted, HubHeard, hub_refused, hub_none, hub_part, hub_fault, hub_whole, hub_heard_lem, Left, seat_gone_lem, SeatActed, seat_leaves, seat_accepts, seat_keeps_lem, seat_passes, seat_skips_lem, seat_completes, seat_told, seat_beaten, seat_tested, seat_acted, SeatHeard, seat_refused, seat_none, seat_part, seat_fault, seat_whole, seat_heard_lem, HubOwes, owes_answer, owes_rejection, owes_message, owes_complete, owes_end, owes_beat, owes_fill, HubSent, sent_refused, sent_none, sent_all_lem, sent_packet, hub_sent_lem, SeatSent, seat_sent_refused, seat_sent_none, seat_sent_request, seat_sent_beat, seat_sent, HubTimed, hub_lasts, hub_lost, hub_late, hub_timed_lem, SeatTimed, seat_lasts, seat_lost, seat_timed_lem}
 use Rattle.promises.proofs.Sound.{bound, early, HonestResponse, Honest, Rejected, Flying, Flight, away, flies, Inv, Sound, Grows, grows_refl, grows_trans, refly, to_phase, to_shut, to_apart, to_waiting, writes, relog, rolls_on}
@@ -57,14 +58,14 @@ kept_trans c s m t p q = record { sound = q.sound; grows = grows_trans s.held m.
 pub gone_keeps : (b : Book) (s : Pair) (r : GoodByeReason) → Sound b s → Kept b s (hub_gone r s)
 gone_keeps b s r i =
     cond_both (fits s.down (encode (good_bye r []))) (hub_writes (good_bye r []) s) s (λ u. Kept b s (hub_leaves Shut u))
-    (λ t. same_log b s _ refl (writes b Shut _ _ _ _ _ (good_bye r []) refl (record { fields = tt; fits = refl }) (λ z. clash (cc)) (λ z ms x. tt) (to_shut b _ _ _ _ _ _ i)))
+    (λ t. same_log b s _ refl (writes b Shut _ _ _ _ _ (good_bye r []) refl (record { fields = tt; fits = refl }) (λ z. (cc)) (λ z ms x. tt) (to_shut b _ _ _ _ _ _ i)))
     (λ t. same_log b s _ refl (to_shut b _ _ _ _ _ _ i))
 
 pub hub_acted_keep : (b : Book) (s : Pair) (h : HubPhase) (v : Value) (o : Outcome Received) → s.hub.phase ≡ h → HubActed s h v o → Sound b s → Kept b s o.after
 hub_acted_keep b s _ _ _ ph (hub_bad_lem h v fault) i = gone_keeps b s G.BadPacket i
 hub_acted_keep b s _ _ _ ph (hub_admits_lem v u c p x n j st) i = same_log b s _ refl (to_phase b _ _ _ _ _ _ (Answering n) tt (λ z. ap bound ph) (λ z. ap early ph) i)
 hub_acted_keep b s _ _ _ ph (hub_rejects v u c p x n t ne st) i = same_log b s _ refl (to_phase b _ _ _ _ _ _ (Rejecting t) ne (λ z. ap bound ph) (λ z. ap early ph) i)
-hub_acted_keep b s _ _ _ ph (hub_refills q n a e d z0) i = same_log b s _ refl (to_phase b _ _ _ _ _ _ (Filling a (min e (count s.running.log))) tt (λ z. ap bound ph) (λ z. clash (cc)) i)
+hub_acted_keep b s _ _ _ ph (hub_refills q n a e d z0) i = same_log b s _ refl (to_phase b _ _ _ _ _ _ (Filling a (min e (count s.running.log))) tt (λ z. ap bound ph) (λ z. (cc)) i)
 hub_acted_keep b s _ _ _ ph (hub_leaves_lem h v l) i = same_log b s _ refl (to_shut b _ _ _ _ _ _ i)
 hub_acted_keep b s _ _ _ ph (hub_stays h v r nl) i = same_log b s s refl i
 
@@ -112,23 +113,23 @@ pub owed_keep : (b : Book) (s : Pair) (v : Value) (t : Pair) → HubOwes s v t �
 owed_keep b s _ _ (owes_answer q ph) i =
     let k : Meaning = s.running.log in
     let h : HubPhase = Serving q (first_number q (count k)) (owes q (count k)) in
-    let j = to_phase b _ _ _ _ _ _ h tt (λ z. ap bound ph) (λ z. clash (cc)) i in
-    same_log b s _ refl (writes b h _ _ _ _ _ (login_response Accepted k.session (count k)) refl (response_valid Accepted k.session (count k) i.small (omega (arith, i.few, i.places))) (λ z. (refl, i.begun)) (λ z. clash (cc)) j)
+    let j = to_phase b _ _ _ _ _ _ h tt (λ z. ap bound ph) (λ z. (cc)) i in
+    same_log b s _ refl (writes b h _ _ _ _ _ (login_response Accepted k.session (count k)) refl (response_valid Accepted k.session (count k) i.small (omega (arith, i.few, i.places))) (λ z. (refl, i.begun)) (λ z. (cc)) j)
 owed_keep b s _ _ (owes_rejection x ph) i =
-    same_log b s _ refl (writes b Shut _ _ _ _ _ (login_response x 0 0) refl (response_valid x 0 0 (omega arith) (omega arith)) (λ z. clash (cc)) (λ z ms y. denied x (rejecting_keeps b s x ph i) 0 y) (to_shut b _ _ _ _ _ _ i))
+    same_log b s _ refl (writes b Shut _ _ _ _ _ (login_response x 0 0) refl (response_valid x 0 0 (omega arith) (omega arith)) (λ z. (cc)) (λ z ms y. denied x (rejecting_keeps b s x ph i) 0 y) (to_shut b _ _ _ _ _ _ i))
 owed_keep b s _ _ (owes_message q n d ph rd) i =
-    let j = to_phase b _ _ _ _ _ _ (Serving q (n + 1) d) tt (λ z. ap bound ph) (λ z. clash (cc)) i in
-    same_log b s _ refl (writes b (Serving q (n + 1) d) _ _ _ _ _ (sequenced n (Log.nth s.running.log n)) refl (read_valid b _ _ _ _ _ _ n rd i) (λ z. read_honest b _ _ _ _ _ _ n rd i) (λ z. clash (cc)) j)
+    let j = to_phase b _ _ _ _ _ _ (Serving q (n + 1) d) tt (λ z. ap bound ph) (λ z. (cc)) i in
+    same_log b s _ refl (writes b (Serving q (n + 1) d) _ _ _ _ _ (sequenced n (Log.nth s.running.log n)) refl (read_valid b _ _ _ _ _ _ n rd i) (λ z. read_honest b _ _ _ _ _ _ n rd i) (λ z. (cc)) j)
 owed_keep b s _ _ (owes_complete q n ph rd) i =
-    let j = to_phase b _ _ _ _ _ _ (Serving q n false) tt (λ z. ap bound ph) (λ z. clash (cc)) i in
+    let j = to_phase b _ _ _ _ _ _ (Serving q n false) tt (λ z. ap bound ph) (λ z. (cc)) i in
     same_log b s _ refl (writes b (Serving q n false) _ _ _ _ _ synchronization_complete refl (record { fields = tt; fits = refl }) (λ z. tt) (λ z ms y. tt) j)
 owed_keep b s _ _ (owes_end q n ph) i =
     same_log b s _ refl (writes b Shut _ _ _ _ _ end_of_session refl (record { fields = tt; fits = refl }) (λ z. tt) (λ z ms y. tt) (to_shut b _ _ _ _ _ _ i))
 owed_keep b s _ _ (owes_beat q n ph) i =
     same_log b s _ refl (writes b _ _ _ _ _ _ hub_heartbeat (ap early ph) (record { fields = tt; fits = refl }) (λ z. tt) (λ z ms y. tt) i)
 owed_keep b s _ _ (owes_fill n l ph rd) i =
-    let j = to_phase b _ _ _ _ _ _ (Filling (n + 1) l) tt (λ z. ap bound ph) (λ z. clash (cc)) i in
-    same_log b s _ refl (writes b (Filling (n + 1) l) _ _ _ _ _ (sequenced n (Log.nth s.running.log n)) refl (read_valid b _ _ _ _ _ _ n rd i) (λ z. read_honest b _ _ _ _ _ _ n rd i) (λ z. clash (cc)) j)
+    let j = to_phase b _ _ _ _ _ _ (Filling (n + 1) l) tt (λ z. ap bound ph) (λ z. (cc)) i in
+    same_log b s _ refl (writes b (Filling (n + 1) l) _ _ _ _ _ (sequenced n (Log.nth s.running.log n)) refl (read_valid b _ _ _ _ _ _ n rd i) (λ z. read_honest b _ _ _ _ _ _ n rd i) (λ z. (cc)) j)
 
 pub hub_sent_keep : (b : Book) (s : Pair) (x : Sending) → HubSent s x → Sound b s → Kept b s x.after
 hub_sent_keep b s _ (sent_refused r) i = same_log b s s refl i
@@ -277,12 +278,12 @@ tried_keep b c s t Fact _ (refused r) k n e f i = subst (λ x. Kept x s s) (sym 
 tried_keep b c s t Fact _ (granted x) k n e f i = subst (λ y. Kept y s t) (sym f) (k x)
 
 serving_early : (h : HubPhase) → is_serving h ≡ true → early h ≡ false
-serving_early Shut e = clash (cc)
-serving_early Waiting e = clash (cc)
-serving_early (Answering q) e = clash (cc)
-serving_early (Rejecting x) e = clash (cc)
+serving_early Shut e = (cc)
+serving_early Waiting e = (cc)
+serving_early (Answering q) e = (cc)
+serving_early (Rejecting x) e = (cc)
 serving_early (Serving q n d) e = refl
-serving_early (Filling n l) e = clash (cc)
+serving_early (Filling n l) e = (cc)
 
 -- a buffer that is too short: nothing happens
 unnoted : (c : Call) (b : Book) → noted c (refusal c ShortBuffer) b ≡ b

@@ -12,7 +12,6 @@ use Rattle.rules.proofs.Keeps.{lines_stay_sound, buffers_last}
 use Rattle.rules.proofs.Total.{rounds_granted}
 use Rattle.promises.specs.Runs.{World, Run, begins, goes_on, GrantedRounds, no_round, round, History}
 use Rattle.promises.specs.Promises.{CatchesUp, CanCatchUp}
-use Rattle.promises.proofs.Fronts.{clash}
 use Rattle.promises.proofs.Keeps.{history_sound}
 use Rattle.promises.proofs.Tells.{history_tru}
 use Rattle.promises.proofs.Catch as catch
@@ -55,7 +54,7 @@ connect_long s e = (or_parts (too_short s.buffers.seat_frame) (too_short s.buffe
 connect_step : (s : Pair) (how : How) → fetch_end how ≡ None → too_short s.buffers.out ≡ false → Step s (Connect how) (did (done (connected how s)))
 connect_step s Join f e = connects Join e
 connect_step s Anew f e = connects Anew e
-connect_step s (Fetch end) f e = clash (cc)
+connect_step s (Fetch end) f e = (cc)
 
 pub can_catch_up : CanCatchUp Step
 can_catch_up o w how h f e =

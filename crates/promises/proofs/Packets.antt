@@ -1,14 +1,10 @@
 -- The packets of SesM as a family, and which of them are valid.
-use Rattle.std.proofs.Common.{◌≡◌, ℕ, ◌+◌, ◌-◌, ◌^◌, ◌<◌, ◌≤◌, min, true, List, [], length, get_or, take, Ok, Result, sym, refl, ap, ◌∙◌, ⊎_elim, arith, length-append}
+use Rattle.std.proofs.Common.{◌≡◌, ℕ, ◌+◌, ◌-◌, ◌<◌, ◌≤◌, min, List, [], length, get_or, take, Ok, Result, sym, ap, ◌∙◌, ⊎_elim, arith}
 use Rattle.std.proofs.lemmas.List.{append-nil, get_or-take, length-take-le}
-use Rattle.std.proofs.lemmas.Bool.{and_from, le-leb, cases_lt, lt-ltb, le-ltb, cond-true, cond-false}
+use Rattle.std.proofs.lemmas.Bool.{cases_lt, lt-ltb, le-ltb, cond-true, cond-false}
 use Rattle.fault.specs.declared.faults.PacketFault.{PacketFault}
-use Rattle.layout.specs.Limits.{message_limit, packet_limit}
-use Rattle.layout.specs.Letters.{shortest, longest, allowed}
-use Rattle.layout.specs.declared.letters.Letter.{Letter}
-use Rattle.layout.specs.declared.letters.Letter.TheVariants as L
-use Rattle.layout.specs.declared.statuses.Status.{Status}
-use Rattle.packet.specs.Values.{Value, Valid, login_request, login_response, sequenced, unsequenced, encode, letter, length_number}
+use Rattle.layout.specs.Limits.{packet_limit}
+use Rattle.packet.specs.Values.{Value, Valid, encode, letter, length_number}
 use Rattle.packet.specs.Decoding.{Answer, part, whole, decode, head_number}
 use Rattle.packet.proofs.Framing.{within}
 use Rattle.packet.proofs.Back.{reads_back, length_encode}
@@ -51,20 +47,3 @@ sesm = record {
 
 pub encode_fits : (v : Value) → Valid v → length (encode v) ≤ packet_limit
 encode_fits v va = omega (arith, length_encode v, (within (letter v) (length_number v) va.fits).limit)
-
-in_range : (l : Letter) (n : ℕ) → shortest l ≤ n → n ≤ longest l → allowed l n ≡ true
-in_range l n a b = and_from _ _ (le-leb (shortest l) n a) (le-leb n (longest l) b)
-
-pub sequenced_valid : (n : ℕ) (m : List ℕ) → n < 256 ^ 8 → length m ≤ message_limit → Valid (sequenced n m)
-sequenced_valid n m l k = record { fields = l; fits = in_range L.Sequenced (length_number (sequenced n m)) (omega arith) (omega arith) }
-
-pub unsequenced_valid : (m : List ℕ) → length m ≤ message_limit → Valid (unsequenced m)
-unsequenced_valid m k = record { fields = tt; fits = in_range L.Unsequenced (length_number (unsequenced m)) (omega arith) (omega arith) }
-
-pub response_valid : (t : Status) (s n : ℕ) → s < 256 → n < 256 ^ 8 → Valid (login_response t s n)
-response_valid t s n a b = record { fields = (a, b); fits = refl }
-
-pub login_valid : (v u c p : List ℕ) (s n : ℕ) → length v ≡ 5 → length u ≡ 5 → length c ≡ 8 → length p ≡ 8 → s < 256 → n < 256 ^ 8 → Valid (login_request v u c p s n)
-login_valid v u c p s n a b d e f g =
-    let long : length_number (login_request v u c p s n) ≡ 36 = simp length-append (omega arith) in
-    record { fields = (a, b, d, e, f, g); fits = in_range L.LoginRequest (length_number (login_request v u c p s n)) (omega arith) (omega arith) }

@@ -21,7 +21,7 @@ use Rattle.rules.specs.State.{Pair}
 use Rattle.rules.specs.Calls.{busy, last_session}
 use Rattle.promises.specs.Book.{Message, Book, added, turned}
 use Rattle.promises.specs.Runs.{Begins}
-use Rattle.promises.proofs.Fronts.{clash, begins_refl, begins_push, begins_trans, nth_append, get_d_push}
+use Rattle.promises.proofs.Fronts.{begins_refl, begins_push, begins_trans, nth_append, get_d_push}
 use Rattle.promises.proofs.Frames.{Short, short_push, stream_push}
 use Rattle.promises.proofs.Packets.{sesm}
 
@@ -141,7 +141,7 @@ module _ (b : Book) (h : HubPhase) (p : SeatPhase) (f : List ℕ) (k l : Meaning
       go (flies y) = flies (record { session = y.session; packets = y.packets; stream = y.stream; short = y.short; valid = y.valid; honest = y.honest; lower = y.lower; upper = y.upper; is_bound = λ z. y.is_bound (a z); quiet = λ z. y.quiet (c z); live = y.live })
 
   pub to_shut : Inv b h p f k l w → Inv b Shut p f k l w
-  to_shut = to_phase Shut tt (λ z. clash (cc)) (λ z. clash (cc))
+  to_shut = to_phase Shut tt (λ z. (cc)) (λ z. (cc))
 
   -- the seat goes apart
   pub to_apart : (e v : List ℕ) → Inv b h p f k l w → Inv b h Apart e k l v
@@ -149,7 +149,7 @@ module _ (b : Book) (h : HubPhase) (p : SeatPhase) (f : List ℕ) (k l : Meaning
 
   -- a connect: nothing is on its way, and the session of the connection is the hub's
   pub to_waiting : Inv b h p f k l w → Inv b Waiting Asking [] k l []
-  to_waiting i = refly Waiting Asking [] [] i tt (flies (record { session = k.session; packets = []; stream = refl; short = tt; valid = tt; honest = tt; lower = i.older; upper = omega arith; is_bound = λ z. refl; quiet = λ z. (refl, λ y. clash (cc)); live = λ y. clash (cc) }))
+  to_waiting i = refly Waiting Asking [] [] i tt (flies (record { session = k.session; packets = []; stream = refl; short = tt; valid = tt; honest = tt; lower = i.older; upper = omega arith; is_bound = λ z. refl; quiet = λ z. (refl, λ y. (cc)); live = λ y. (cc) }))
 
   -- the hub writes a packet
   pub writes : (v : Value) → early h ≡ false → Valid v → (bound h ≡ true → Honest (b.lists k.session) k.session v) → (bound h ≡ false → (ms : List Message) (x : ℕ) → Honest ms x v) → Inv b h p f k l w → Inv b h p f k l (w ++ encode v)
@@ -169,7 +169,7 @@ module _ (b : Book) (h : HubPhase) (p : SeatPhase) (f : List ℕ) (k l : Meaning
             lower = y.lower;
             upper = y.upper;
             is_bound = y.is_bound;
-            quiet = λ z. clash (cc);
+            quiet = λ z. (cc);
             live = y.live;
           })
 
@@ -188,7 +188,7 @@ module _ (b : Book) (h : HubPhase) (p : SeatPhase) (f : List ℕ) (k l : Meaning
     held = pre;
     older = omega (arith, y.upper);
     rejected = i.rejected;
-    flight = flies (record { session = y.session; packets = y.packets; stream = y.stream; short = y.short; valid = y.valid; honest = y.honest; lower = omega arith; upper = y.upper; is_bound = y.is_bound; quiet = λ z. clash (cc); live = λ z. e });
+    flight = flies (record { session = y.session; packets = y.packets; stream = y.stream; short = y.short; valid = y.valid; honest = y.honest; lower = omega arith; upper = y.upper; is_bound = y.is_bound; quiet = λ z. (cc); live = λ z. e });
   }
 
 -- more was published
@@ -234,14 +234,14 @@ publishes b h p f k l w m ok i =
 
 -- the hub went on to the next session
 roll_flight : (lists : ℕ → List Message) (h : HubPhase) (p : SeatPhase) (f : List ℕ) (k l : ℕ) (w : List ℕ) → busy h ≡ false → l ≤ k → Flying lists h p f k l w → Flying lists h p f (k + 1) l w
-roll_flight lists Shut p f k l w bu o y = record { session = y.session; packets = y.packets; stream = y.stream; short = y.short; valid = y.valid; honest = y.honest; lower = y.lower; upper = omega (arith, y.upper); is_bound = λ z. clash (cc); quiet = y.quiet; live = y.live }
+roll_flight lists Shut p f k l w bu o y = record { session = y.session; packets = y.packets; stream = y.stream; short = y.short; valid = y.valid; honest = y.honest; lower = y.lower; upper = omega (arith, y.upper); is_bound = λ z. (cc); quiet = y.quiet; live = y.live }
 roll_flight lists Waiting p f k l w bu o y =
     let q = y.quiet refl in
     record { session = k + 1; packets = []; stream = y.stream ∙ ap (flat_map encode) q.0; short = tt; valid = tt; honest = tt; lower = omega arith; upper = omega arith; is_bound = λ z. refl; quiet = λ z. (refl, q.1); live = λ z. absurd (q.1 z) }
-roll_flight lists (Answering q) p f k l w bu o y = clash (cc)
-roll_flight lists (Rejecting x) p f k l w bu o y = record { session = y.session; packets = y.packets; stream = y.stream; short = y.short; valid = y.valid; honest = y.honest; lower = y.lower; upper = omega (arith, y.upper); is_bound = λ z. clash (cc); quiet = y.quiet; live = y.live }
-roll_flight lists (Serving q n d) p f k l w bu o y = clash (cc)
-roll_flight lists (Filling n m) p f k l w bu o y = clash (cc)
+roll_flight lists (Answering q) p f k l w bu o y = (cc)
+roll_flight lists (Rejecting x) p f k l w bu o y = record { session = y.session; packets = y.packets; stream = y.stream; short = y.short; valid = y.valid; honest = y.honest; lower = y.lower; upper = omega (arith, y.upper); is_bound = λ z. (cc); quiet = y.quiet; live = y.live }
+roll_flight lists (Serving q n d) p f k l w bu o y = (cc)
+roll_flight lists (Filling n m) p f k l w bu o y = (cc)
 
 pub rolls_on : (b : Book) (h : HubPhase) (p : SeatPhase) (f : List ℕ) (k l : Meaning) (w : List ℕ) → busy h ≡ false → k.session < last_session → Inv b h p f k l w → Inv (turned b) h p f (begun k (k.session + 1)) l w
 rolls_on b h p f k l w bu sm i = record {

@@ -38,10 +38,11 @@ use Rattle.rules.specs.Rounds.{HubReceives, SeatReceives, Drains, ends, more, Ro
 use Rattle.promises.specs.Book.{Message, Book, opened, added, turned, noted}
 use Rattle.promises.specs.Runs.{Begins, Note, accepts, written, renoted, World, Run, begins, goes_on, SetUp, History}
 use Rattle.promises.specs.Promises.{Holds, InStepIsTrue}
-use Rattle.promises.proofs.Fronts.{clash, begins_push, begins_trans, begins_length, begins_shorter}
+use Rattle.promises.proofs.Fronts.{begins_push, begins_trans, begins_length, begins_shorter}
 use Rattle.promises.proofs.Frames.{Short, short_nil}
-use Rattle.promises.proofs.Packets.{sesm, unsequenced_valid, response_valid}
-use Rattle.promises.proofs.Packets as packets
+use Rattle.promises.proofs.Packets.{sesm}
+use Rattle.packet.proofs.Valids.{unsequenced_valid, response_valid}
+use Rattle.packet.proofs.Valids as valids
 use Rattle.promises.proofs.Arrivals.{still_part, now_whole}
 use Rattle.promises.proofs.Cases.{Tried, refused, granted, connect_tried, publish_tried, finish_tried, roll_tried, tell_tried, say_tried, leave_tried, passed, asks, NoLogin, Took, got_within, HubActed, hub_bad_lem, hub_admits_lem, hub_rejects, hub_refills, hub_leaves_lem, hub_stays, hub_acted, HubHeard, hub_refused, hub_none, hub_part, hub_fault, hub_whole, hub_heard_lem, seat_gone_lem, SeatActed, seat_leaves, seat_accepts, seat_keeps_lem, seat_passes, seat_skips_lem, seat_completes, seat_told, seat_beaten, seat_tested, seat_acted, SeatHeard, seat_refused, seat_none, seat_part, seat_fault, seat_whole, seat_heard_lem, HubOwes, owes_answer, owes_rejection, owes_message, owes_complete, owes_end, owes_beat, owes_fill, HubSent, sent_refused, sent_none, sent_all_lem, sent_packet, hub_sent_lem, SeatSent, seat_sent_refused, seat_sent_none, seat_sent_request, seat_sent_beat, seat_sent, HubTimed, hub_lasts, hub_lost, hub_late, hub_timed_lem, SeatTimed, seat_lasts, seat_lost, seat_timed_lem}
 use Rattle.promises.proofs.Sound.{Sound, list_grows}
@@ -60,7 +61,7 @@ not_accepts AlreadyLoggedIn ne = refl
 -- all is sent where the next number is not held
 past_all : (k : Meaning) (n : ℕ) → 0 < n → has k n ≡ false → count k < n
 past_all k n po h =
-    ⊎_elim (λ l. l) (λ l. clash (cc (h, and_from (leb 1 n) (leb n (count k)) (le-leb 1 n po) (le-leb n (count k) l)))) (cases_lt (count k) n)
+    ⊎_elim (λ l. l) (λ l. (cc (h, and_from (leb 1 n) (leb n (count k)) (le-leb 1 n po) (le-leb n (count k) l)))) (cases_lt (count k) n)
 
 -- the hub writes what it owes
 owed_tru : (o : Option Note) (b : Book) (s : Pair) (v : Value) (t : Pair) → HubOwes s v t → Sound b s → Truth o b s → Truth (written s.seat.number b (Some v) o) b (hub_writes v t)
@@ -72,7 +73,7 @@ owed_tru o b s _ _ (owes_rejection x ph) i tr =
     let na = not_accepts x (rejecting_keeps b s x ph i) in
     let v : Value = login_response x 0 0 in
     let e : written s.seat.number b (Some v) o ≡ o = cond-false _ _ _ (and_left _ _ na) in
-    tru_writes o b (view s) Shut v (λ y. subst (λ z. Joined z (after (view s) Shut v)) (sym e) (joined_plain o (view s) Shut v y (response_valid x 0 0 (omega arith) (omega arith)) tt (λ c l. (λ a. clash (cc (a, na)), λ a z. clash (cc (a, na)), omega arith)))) tr
+    tru_writes o b (view s) Shut v (λ y. subst (λ z. Joined z (after (view s) Shut v)) (sym e) (joined_plain o (view s) Shut v y (response_valid x 0 0 (omega arith) (omega arith)) tt (λ c l. (λ a. (cc (a, na)), λ a z. (cc (a, na)), omega arith)))) tr
 owed_tru o b s _ _ (owes_message q n d ph rd) i tr =
     let v : Value = sequenced n (Log.nth s.running.log n) in
     let gs : goal s.hub.phase ≡ n - 1 = ap goal ph in
@@ -112,7 +113,7 @@ number_small o b s tr (inl (a, n)) = omega arith
 number_small o b s tr (inr (a, po, n)) = omega (arith, tr.few, tr.places)
 
 pub login_valid : (o : Option Note) (b : Book) (s : Pair) → Sound b s → Truth o b s → Asked (view s) → Valid (its_login (view s))
-login_valid o b s i tr a = packets.login_valid spoken_version s.account.user s.account.computer s.account.protocol s.seat.session s.seat.number refl tr.user tr.computer tr.protocol (asked_small b s i a) (number_small o b s tr a)
+login_valid o b s i tr a = valids.login_valid spoken_version s.account.user s.account.computer s.account.protocol s.seat.session s.seat.number refl tr.user tr.computer tr.protocol (asked_small b s i a) (number_small o b s tr a)
 
 module _ (o : Option Note) (b : Book) (s : Pair) (u : LineView) (x : ℕ) (xs : List ℕ) (tk : Took s.up (lack s.hub.frame) (x ∷ xs) u) (i : Sound b s) (tr : Truth o b s) (y : Joined o (view s)) (ls : List Letter) where
   came_login : (v : Value) → judged ls (s.hub.frame ++ (x ∷ xs)) ≡ Ok (whole v) → Stage (view s) o y.packets y.session Waiting → v ≡ its_login (view s)
@@ -189,9 +190,9 @@ pub record Came (o : Option Note) (w : View) (v : Value) : Type 0 where
 
 late_stage : (o : Option Note) (w : View) (v : Value) (rest ps : List Value) (x : ℕ) (h : HubPhase) → ps ≡ v ∷ rest → Stage w o ps x h → (z : View) → z.kept ≡ w.kept → Stage z o rest x h
 late_stage o w v rest ps x Shut e st z k = tt
-late_stage o w v rest ps x Waiting e st z k = clash (cc (st.0, e))
-late_stage o w v rest ps x (Answering q) e st z k = clash (cc (st.0, e))
-late_stage o w v rest ps x (Rejecting r) e st z k = clash (cc (st, e))
+late_stage o w v rest ps x Waiting e st z k = (cc (st.0, e))
+late_stage o w v rest ps x (Answering q) e st z k = (cc (st.0, e))
+late_stage o w v rest ps x (Rejecting r) e st z k = (cc (st, e))
 late_stage o w v rest ps x (Serving q n d) e st z k = (st.0, st.1, ap (λ (l : Meaning). l.session) k ∙ st.2)
 late_stage o w v rest ps x (Filling n l) e st z k = st
 
@@ -267,7 +268,7 @@ module _ (o : Option Note) (b : Book) (s : Pair) (d : LineView) (x : ℕ) (xs : 
       go (fetches e f n g) =
           let e1 : eqb (top + 1) s.seat.number ≡ false = ne_eqb (top + 1) s.seat.number (λ q. omega arith) in
           let e2 : (s.seat.in_step || eqb (top + 1) s.seat.number) ≡ false = rw (g, e1) refl in
-          record { notes = tr.notes; truth = λ q. clash (cc (q, e2)); user = tr.user; computer = tr.computer; protocol = tr.protocol; few = fp.0; places = fp.1; way = fetches e f n e2 }
+          record { notes = tr.notes; truth = λ q. (cc (q, e2)); user = tr.user; computer = tr.computer; protocol = tr.protocol; few = fp.0; places = fp.1; way = fetches e f n e2 }
       go (joins y) =
           let v : Value = login_response Accepted z top in
           let n : Meaning = in_session s.held z in
@@ -280,7 +281,7 @@ module _ (o : Option Note) (b : Book) (s : Pair) (d : LineView) (x : ℕ) (xs : 
           let l2 : count (in_session n cm.session) ≡ count (in_session s.held cm.session) = ap count same ∙ ll in
           record {
             notes = tr.notes;
-            truth = λ q. ⊎_elim (λ r. clash (cc (r, ask.1)))
+            truth = λ q. ⊎_elim (λ r. (cc (r, ask.1)))
                 (λ r. let re = cm.leads.1 refl (eqb-true _ _ r) in
                 holds_from o b n pre tr.notes re.0 re.1 (cm.notes re.0 re.1 ∙ sym zs ∙ sym (in_session_is s.held z)) (omega (arith, re.2, ll)))
                 (or_cases s.seat.in_step (eqb (top + 1) s.seat.number) q);
@@ -289,7 +290,7 @@ module _ (o : Option Note) (b : Book) (s : Pair) (d : LineView) (x : ℕ) (xs : 
             protocol = tr.protocol;
             few = fp.0;
             places = fp.1;
-            way = joins (settle o (view heard) v cm Live (s.seat.in_step || eqb (top + 1) s.seat.number) n (λ q. clash (cc)) (λ q. in_session_is s.held z ∙ zs) (subst (λ c. Leads o cm.session s.seat.number c cm.rest (goal s.hub.phase)) (sym l2) cm.leads.2));
+            way = joins (settle o (view heard) v cm Live (s.seat.in_step || eqb (top + 1) s.seat.number) n (λ q. (cc)) (λ q. in_session_is s.held z ∙ zs) (subst (λ c. Leads o cm.session s.seat.number c cm.rest (goal s.hub.phase)) (sym l2) cm.leads.2));
           }
 
   -- the next message is kept
@@ -323,7 +324,7 @@ module _ (o : Option Note) (b : Book) (s : Pair) (d : LineView) (x : ℕ) (xs : 
             protocol = tr.protocol;
             few = omega (arith, lt, lp);
             places = tr.places;
-            way = joins (settle o (view heard) v cm s.seat.phase s.seat.in_step a (λ q. clash (cc (q, ph))) (λ q. se) (subst (λ c. Leads o cm.session s.seat.number c cm.rest (goal s.hub.phase)) (sym c1) (cm.leads.1 (omega arith))));
+            way = joins (settle o (view heard) v cm s.seat.phase s.seat.in_step a (λ q. (cc (q, ph))) (λ q. se) (subst (λ c. Leads o cm.session s.seat.number c cm.rest (goal s.hub.phase)) (sym c1) (cm.leads.1 (omega arith))));
           }
 
   -- synchronization complete
@@ -332,7 +333,7 @@ module _ (o : Option Note) (b : Book) (s : Pair) (d : LineView) (x : ℕ) (xs : 
     where
       go : Way o (view s) → Tru o b (seated (view heard) Live true s.held)
       go (gone e) = absurd (not_apart s.seat.phase na e)
-      go (fetches e f n g) = clash (cc (f, fe))
+      go (fetches e f n g) = (cc (f, fe))
       go (joins y) =
           let cm = came o s d x xs tk letters y synchronization_complete ju in
           let se : s.held.session ≡ cm.session = cm.live ph in
@@ -346,7 +347,7 @@ module _ (o : Option Note) (b : Book) (s : Pair) (d : LineView) (x : ℕ) (xs : 
             protocol = tr.protocol;
             few = tr.few;
             places = tr.places;
-            way = joins (settle o (view heard) synchronization_complete cm Live true s.held (λ q. clash (cc)) (λ q. se) cm.leads.1);
+            way = joins (settle o (view heard) synchronization_complete cm Live true s.held (λ q. (cc)) (λ q. se) cm.leads.1);
           }
 
   seat_acted_tru : (p : SeatPhase) (v : Value) (r : Outcome Received) → s.seat.phase ≡ p → SeatActed heard p v r → judged letters (s.seat.frame ++ (x ∷ xs)) ≡ Ok (whole v) → Sound b r.after → Truth o b s → Truth o b r.after
@@ -358,7 +359,7 @@ module _ (o : Option Note) (b : Book) (s : Pair) (d : LineView) (x : ℕ) (xs : 
   seat_acted_tru _ _ _ ph (seat_passes n m nu) ju i tr = came_same (sequenced n m) tr ju (λ cm.
       let c0 : count (in_session s.held cm.session) ≡ count s.held = ap count (in_session_at s.held cm.session (cm.live ph)) in
       cm.leads.2 (omega arith))
-  seat_acted_tru _ _ _ ph (seat_skips_lem n e m fe) ju i tr = came_same (sequenced n m) tr ju (λ cm. clash (cc (cm.no_fetch, fe)))
+  seat_acted_tru _ _ _ ph (seat_skips_lem n e m fe) ju i tr = came_same (sequenced n m) tr ju (λ cm. (cc (cm.no_fetch, fe)))
   seat_acted_tru _ _ _ ph (seat_completes fe) ju i tr = completes_tru ph fe ju i.held tr
   seat_acted_tru _ _ _ ph (seat_told m) ju i tr = came_same (unsequenced m) tr ju (λ cm. cm.leads)
   seat_acted_tru _ _ _ ph seat_beaten ju i tr = came_same hub_heartbeat tr ju (λ cm. cm.leads)
@@ -383,7 +384,7 @@ seat_receives_tru o b s p r i = seat_heard_tru o b s p (seat_heard_lem s p r) (s
 -- a seat that is live writes
 live_stage : (o : Option Note) (w : View) (u : List ℕ) (ps : List Value) (x : ℕ) (h : HubPhase) → w.seat ≡ Live → Stage w o ps x h → Stage (hubbed w h w.hub_frame_lem u w.down) o ps x h
 live_stage o w u ps x Shut l st = tt
-live_stage o w u ps x Waiting l st = clash (cc (l, st.2))
+live_stage o w u ps x Waiting l st = (cc (l, st.2))
 live_stage o w u ps x (Answering q) l st = st
 live_stage o w u ps x (Rejecting r) l st = st
 live_stage o w u ps x (Serving q n d) l st = st
@@ -447,10 +448,10 @@ seat_timed_tru o b s _ seat_lost tr = apart_tru o b s (seat_to Apart s) refl ref
 
 -- a new connection
 pub new_joined : (s : Pair) (how : How) → fetch_end how ≡ None → Asked (view (connected how s)) → Joined None (view (connected how s))
-new_joined s how fe a = record { session = 0; packets = []; stream = refl; short = tt; valid = tt; no_fetch = fe; notes = λ k e. clash (cc); asks = λ z. (a, refl); live = λ z. clash (cc); stage = (refl, refl, refl, sym (append-nil _), sesm.some (its_login (view (connected how s)))); leads = omega arith }
+new_joined s how fe a = record { session = 0; packets = []; stream = refl; short = tt; valid = tt; no_fetch = fe; notes = λ k e. (cc); asks = λ z. (a, refl); live = λ z. (cc); stage = (refl, refl, refl, sym (append-nil _), sesm.some (its_login (view (connected how s)))); leads = omega arith }
 
 pub new_tru : (o : Option Note) (b : Book) (s : Pair) (how : How) → Way None (view (connected how s)) → Truth o b s → Truth None b (connected how s)
-new_tru o b s how w tr = record { notes = λ k e. clash (cc); truth = λ e. clash (cc); user = tr.user; computer = tr.computer; protocol = tr.protocol; few = tr.few; places = tr.places; way = w }
+new_tru o b s how w tr = record { notes = λ k e. (cc); truth = λ e. (cc); user = tr.user; computer = tr.computer; protocol = tr.protocol; few = tr.few; places = tr.places; way = w }
 
 asked_join : (b : Book) (s : Pair) → Sound b s → Asked (view (connected Join s))
 asked_join b s i = ⊎_elim
@@ -464,7 +465,7 @@ asked_join b s i = ⊎_elim
 pub connect_asked : (b : Book) (s : Pair) (how : How) → fetch_end how ≡ None → Sound b s → Asked (view (connected how s))
 connect_asked b s Join fe i = asked_join b s i
 connect_asked b s Anew fe i = inl (refl, refl)
-connect_asked b s (Fetch e) fe i = clash (cc)
+connect_asked b s (Fetch e) fe i = (cc)
 
 connected_tru : (o : Option Note) (b : Book) (s : Pair) (how : How) → Sound b s → Truth o b s → Truth None b (connected how s)
 connected_tru o b s Join i tr = new_tru o b s Join (joins (new_joined s Join refl (asked_join b s i))) tr
@@ -491,9 +492,9 @@ same_session_stage o v k e (Filling n l) ps x st = st
 rolled_stage : (o : Option Note) (v : View) (k : Meaning) (h : HubPhase) → busy h ≡ false → (ps : List Value) (x : ℕ) → Stage v o ps x h → Stage (rekept v k) o ps x h
 rolled_stage o v k Shut bu ps x st = tt
 rolled_stage o v k Waiting bu ps x st = st
-rolled_stage o v k (Answering q) bu ps x st = clash (cc)
+rolled_stage o v k (Answering q) bu ps x st = (cc)
 rolled_stage o v k (Rejecting r) bu ps x st = st
-rolled_stage o v k (Serving q n d) bu ps x st = clash (cc)
+rolled_stage o v k (Serving q n d) bu ps x st = (cc)
 rolled_stage o v k (Filling n l) bu ps x st = st
 
 published_tru : (o : Option Note) (b : Book) (s : Pair) (m : Message) → Truth o b s → Tru o (added b m) (rekept (view s) (Log.added s.running.log m))
@@ -509,15 +510,15 @@ told_tru o b s m se va tr =
   where
     go : (h : HubPhase) → is_serving h ≡ true → (ps : List Value) (x : ℕ) → Stage (view s) o ps x h → Stage (after (view s) s.hub.phase (unsequenced m)) o (ps ++ (unsequenced m ∷ [])) x h
     go Shut e ps x st = tt
-    go Waiting e ps x st = clash (cc)
-    go (Answering q) e ps x st = clash (cc)
-    go (Rejecting r) e ps x st = clash (cc)
+    go Waiting e ps x st = (cc)
+    go (Answering q) e ps x st = (cc)
+    go (Rejecting r) e ps x st = (cc)
     go (Serving q n d) e ps x st = st
-    go (Filling n l) e ps x st = clash (cc)
+    go (Filling n l) e ps x st = (cc)
 
 live_is : (p : SeatPhase) → is_live p ≡ true → p ≡ Live
-live_is Apart e = clash (cc)
-live_is Asking e = clash (cc)
+live_is Apart e = (cc)
+live_is Asking e = (cc)
 live_is Live e = refl
 
 -- a call that is refused changes nothing, and neither book nor note
@@ -563,7 +564,7 @@ run_tru begins i tr = tr
 run_tru (goes_on {w = m} r c d h) i tr = step_tru m.note m.book m.pair c d h (run_keeps r i).0 (run_tru r i tr)
 
 pub set_up_tru : (s : Pair) → SetUp s → Truth None (opened s.running.log) s
-set_up_tru s u = record { notes = λ k e. clash (cc); truth = λ e. clash (cc (e, u.unreported)); user = u.user; computer = u.computer; protocol = u.protocol; few = u.seat_log_sound.placed; places = u.seat_log_sound.places_within; way = gone u.apart }
+set_up_tru s u = record { notes = λ k e. (cc); truth = λ e. (cc (e, u.unreported)); user = u.user; computer = u.computer; protocol = u.protocol; few = u.seat_log_sound.placed; places = u.seat_log_sound.places_within; way = gone u.apart }
 
 pub history_tru : (o : Pair) (w : World) → History Step o w → Truth w.note w.book w.pair
 history_tru o w (u, r) = run_tru r (set_up_sound o u) (set_up_tru o u)

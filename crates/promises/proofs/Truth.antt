@@ -19,7 +19,7 @@ use Rattle.rules.specs.Seat.{in_session, next_number}
 use Rattle.promises.specs.Book.{Book}
 use Rattle.promises.specs.Runs.{Begins, Note, as_of, accepts, tells_all, or_else, written}
 use Rattle.promises.specs.Promises.{Holds}
-use Rattle.promises.proofs.Fronts.{clash, begins_refl, begins_length}
+use Rattle.promises.proofs.Fronts.{begins_refl, begins_length}
 use Rattle.promises.proofs.Frames.{Short, short_push, stream_push}
 use Rattle.promises.proofs.Packets.{sesm}
 
@@ -154,7 +154,7 @@ rehub o b v h f u k i = record { notes = i.notes; truth = i.truth; user = i.user
 
 -- a note that is set stays
 or_keeps : (o : Option Note) (m k : Note) → o ≡ Some k → or_else o m ≡ Some k
-or_keeps None m k e = clash (cc)
+or_keeps None m k e = (cc)
 or_keeps (Some j) m k e = e
 
 or_new : (o : Option Note) (m k : Note) → or_else o m ≡ Some k → (o ≡ Some k) ⊎ (k ≡ m)
@@ -244,9 +244,9 @@ joined_answer o b w q ph ru ke v ev va y =
       short = subst (λ ps. Short sesm w.frame (ps ++ (v ∷ []))) st.0 (short_push sesm w.frame w.down v y.packets y.stream y.short);
       valid = (va, tt);
       no_fetch = y.no_fetch;
-      notes = λ k e. ⊎_elim (λ z. clash (cc (z, st.1))) (λ z. ap (λ (m : Note). m.session) z ∙ ru) (written_new o w.number b v k e);
+      notes = λ k e. ⊎_elim (λ z. (cc (z, st.1))) (λ z. ap (λ (m : Note). m.session) z ∙ ru) (written_new o w.number b v k e);
       asks = y.asks;
-      live = λ z. clash (cc (z, st.2));
+      live = λ z. (cc (z, st.2));
       stage = (omega (arith, st.3), omega (arith, fq, st.3), refl);
       leads = subst (λ u. Leads p x w.number (count (in_session w.held x)) (u ∷ []) (first_number q top - 1)) (sym ev) le;
     }

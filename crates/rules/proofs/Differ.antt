@@ -11,7 +11,6 @@ use Rattle.rules.specs.Rounds.{hub_deaf, hub_hears_bytes, seat_hears_bytes, ends
 use Rattle.rules.specs.Roomiest.{roomiest}
 use Rattle.rules.specs.Laws.{Lined, RoundsDiffer}
 use Rattle.rules.specs.Examples.{pair, log}
-use Rattle.rules.proofs.Frames.{clash}
 use Rattle.rules.proofs.Total.{total}
 
 -- A logout and a byte more wait for the hub on a line with no room; the seat owes a heartbeat. The hub takes the
@@ -25,7 +24,7 @@ tight =
 tight_lined : Lined tight
 tight_lined =
     record {
-      up = record { sound = record { empty = λ e. clash (cc); size = (omega arith, omega arith); some = omega arith }; within = omega arith };
+      up = record { sound = record { empty = λ e. (cc); size = (omega arith, omega arith); some = omega arith }; within = omega arith };
       down = record { sound = record { empty = λ e. refl; size = (omega arith, omega arith); some = omega arith }; within = omega arith };
     }
 
@@ -38,8 +37,8 @@ stingy = (
     heard = _;
     taken = _;
     hub_drains =
-        more tight _ 0 _ _ _ (hub_hears_bytes 0 refl (record { grows = omega arith; within = omega arith; empty = λ e. clash (cc) })) refl
-        (more _ _ 1 _ _ _ (hub_hears_bytes 0 refl (record { grows = omega arith; within = omega arith; empty = λ e. clash (cc) })) refl
+        more tight _ 0 _ _ _ (hub_hears_bytes 0 refl (record { grows = omega arith; within = omega arith; empty = λ e. (cc) })) refl
+        (more _ _ 1 _ _ _ (hub_hears_bytes 0 refl (record { grows = omega arith; within = omega arith; empty = λ e. (cc) })) refl
         (ends _ _ None (hub_deaf refl) refl));
     hub_wrote = refl;
     seat_drains = ends _ _ None (seat_hears_bytes packet_limit refl (record { grows = omega arith; within = omega arith; empty = λ e. refl })) refl;

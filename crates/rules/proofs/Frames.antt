@@ -13,9 +13,6 @@ use Rattle.memory.specs.Memory.{laid}
 use Rattle.rules.specs.Frames.{lack, given, placed}
 use Rattle.rules.specs.Laws.{PartsLack}
 
-pub clash : {A : Type 0} → ◌≡◌ {A = ℕ} 0 1 → A
-clash e = absurd (omega arith)
-
 -- the length number of a part with a head is a good one, and counts more than is there
 part_head : (f : List ℕ) → decode f ≡ Ok part → 2 ≤ length f → (length f < head_number f + 2) × (head_number f ≤ length_limit)
 part_head f e two =
@@ -23,7 +20,7 @@ part_head f e two =
     (λ n q. let c = counted_forth (head_number f) n q in
     cut (ltb (length f) (n + 2)) (Ok part) (wholly (opened (get_or f 2 0) (take (n - 1) (drop 3 f)))) (Ok part) ((length f < head_number f + 2) × (head_number f ≤ length_limit))
     (λ t u. (omega (arith, ltb-true (length f) (n + 2) t, c.0), c.2))
-    (λ t. took (opened (get_or f 2 0) (take (n - 1) (drop 3 f))) _ part ((length f < head_number f + 2) × (head_number f ≤ length_limit)) (λ v x y. clash (cc))))
+    (λ t. took (opened (get_or f 2 0) (take (n - 1) (drop 3 f))) _ part ((length f < head_number f + 2) × (head_number f ≤ length_limit)) (λ v x y. (cc))))
     (sym (decode_head f two) ∙ e)
 
 pub parts_lack : PartsLack
@@ -37,16 +34,16 @@ parts_lack f e =
 -- an end that is handed more of a part sees a part where a reader sees one
 pub placed_part : (here : Bool) (r : Result Answer PacketFault) → placed here r ≡ Ok part → r ≡ Ok part
 placed_part here (Ok part) e = refl
-placed_part true (Ok (whole v)) e = clash (cc)
-placed_part false (Ok (whole v)) e = clash (cc)
-placed_part here (Err LengthZero) e = clash (cc)
-placed_part here (Err LengthOverLimit) e = clash (cc)
-placed_part here (Err UnknownLetter) e = clash (cc)
-placed_part here (Err OutOfPlace) e = clash (cc)
-placed_part true (Err WrongLength) e = clash (cc)
-placed_part false (Err WrongLength) e = clash (cc)
-placed_part true (Err (WrongContent x)) e = clash (cc)
-placed_part false (Err (WrongContent x)) e = clash (cc)
+placed_part true (Ok (whole v)) e = (cc)
+placed_part false (Ok (whole v)) e = (cc)
+placed_part here (Err LengthZero) e = (cc)
+placed_part here (Err LengthOverLimit) e = (cc)
+placed_part here (Err UnknownLetter) e = (cc)
+placed_part here (Err OutOfPlace) e = (cc)
+placed_part true (Err WrongLength) e = (cc)
+placed_part false (Err WrongLength) e = (cc)
+placed_part true (Err (WrongContent x)) e = (cc)
+placed_part false (Err (WrongContent x)) e = (cc)
 
 -- a frame f in a buffer b, and later a frame g in c
 pub record Filled (f b g c : List ℕ) : Type 0 where

@@ -15,7 +15,6 @@ use Rattle.rules.specs.Calls.{done, connect, cut, publish, finish, roll, tell, s
 use Rattle.rules.specs.Rounds.{HubReceives, hub_deaf, hub_hears_bytes, SeatReceives, seat_deaf, seat_hears_bytes, going, Drains, ends, more, Rounds, Call, Connect, Cut, Publish, Finish, Roll, Tell, Say, Leave, HubReceive, SeatReceive, HubSend, SeatSend, Tick, Round, Took, Put, Went, refusal, lent_short, Deed, did, took, Step, short_buffer, connects, cuts, publishes, finishes, rolls, tells, says, leaves, hub_receives, seat_receives, hub_sends_one, seat_sends_one, ticks, rounds}
 use Rattle.rules.specs.Laws.{roomless, Alike, OneOutcome, hub_gave, seat_gave, drains_gave, gave, OnlyRoomsFree}
 use Rattle.rules.proofs.Blind.{hub_hears_blind, seat_hears_blind}
-use Rattle.rules.proofs.Frames.{clash}
 
 -- two receives of one end from one pair: their outcomes are alike, and the same if they left the same room
 pub record Close (o p : Outcome Received) : Type 0 where
@@ -24,8 +23,8 @@ pub record Close (o p : Outcome Received) : Type 0 where
 
 hub_close : (s : Pair) (o p : Outcome Received) → HubReceives s o → HubReceives s p → Close o p
 hub_close s _ _ (hub_deaf e) (hub_deaf f) = record { answer = refl; after = refl }
-hub_close s _ _ (hub_deaf e) (hub_hears_bytes room f free) = clash (cc)
-hub_close s _ _ (hub_hears_bytes room e free) (hub_deaf f) = clash (cc)
+hub_close s _ _ (hub_deaf e) (hub_hears_bytes room f free) = (cc)
+hub_close s _ _ (hub_hears_bytes room e free) (hub_deaf f) = (cc)
 hub_close s _ _ (hub_hears_bytes a e free) (hub_hears_bytes b f free') =
     let n : ℕ = lack s.hub.frame in
     let x = hub_hears_blind (given s.up n) (left s.up n a) s in
@@ -34,8 +33,8 @@ hub_close s _ _ (hub_hears_bytes a e free) (hub_hears_bytes b f free') =
 
 seat_close : (s : Pair) (o p : Outcome Received) → SeatReceives s o → SeatReceives s p → Close o p
 seat_close s _ _ (seat_deaf e) (seat_deaf f) = record { answer = refl; after = refl }
-seat_close s _ _ (seat_deaf e) (seat_hears_bytes room f free) = clash (cc)
-seat_close s _ _ (seat_hears_bytes room e free) (seat_deaf f) = clash (cc)
+seat_close s _ _ (seat_deaf e) (seat_hears_bytes room f free) = (cc)
+seat_close s _ _ (seat_hears_bytes room e free) (seat_deaf f) = (cc)
 seat_close s _ _ (seat_hears_bytes a e free) (seat_hears_bytes b f free') =
     let n : ℕ = lack s.seat.frame in
     let x = seat_hears_blind (given s.down n) (left s.down n a) s in
@@ -44,16 +43,16 @@ seat_close s _ _ (seat_hears_bytes a e free) (seat_hears_bytes b f free') =
 
 hub_same : (s : Pair) (o p : Outcome Received) (x : HubReceives s o) (y : HubReceives s p) (xs ys : List ℕ) → hub_gave s o x ++ xs ≡ hub_gave s p y ++ ys → (o ≡ p) × (xs ≡ ys)
 hub_same s _ _ (hub_deaf e) (hub_deaf f) xs ys q = (refl, q)
-hub_same s _ _ (hub_deaf e) (hub_hears_bytes room f free) xs ys q = clash (cc)
-hub_same s _ _ (hub_hears_bytes room e free) (hub_deaf f) xs ys q = clash (cc)
+hub_same s _ _ (hub_deaf e) (hub_hears_bytes room f free) xs ys q = (cc)
+hub_same s _ _ (hub_hears_bytes room e free) (hub_deaf f) xs ys q = (cc)
 hub_same s _ _ (hub_hears_bytes a e free) (hub_hears_bytes b f free') xs ys q =
     let n : ℕ = lack s.hub.frame in
     let r : a ≡ b = cc in (ap (λ i. hub_hears (given s.up n) (left s.up n i) s) r, cc)
 
 seat_same : (s : Pair) (o p : Outcome Received) (x : SeatReceives s o) (y : SeatReceives s p) (xs ys : List ℕ) → seat_gave s o x ++ xs ≡ seat_gave s p y ++ ys → (o ≡ p) × (xs ≡ ys)
 seat_same s _ _ (seat_deaf e) (seat_deaf f) xs ys q = (refl, q)
-seat_same s _ _ (seat_deaf e) (seat_hears_bytes room f free) xs ys q = clash (cc)
-seat_same s _ _ (seat_hears_bytes room e free) (seat_deaf f) xs ys q = clash (cc)
+seat_same s _ _ (seat_deaf e) (seat_hears_bytes room f free) xs ys q = (cc)
+seat_same s _ _ (seat_hears_bytes room e free) (seat_deaf f) xs ys q = (cc)
 seat_same s _ _ (seat_hears_bytes a e free) (seat_hears_bytes b f free') xs ys q =
     let n : ℕ = lack s.seat.frame in
     let r : a ≡ b = cc in (ap (λ i. seat_hears (given s.down n) (left s.down n i) s) r, cc)
@@ -78,11 +77,11 @@ module _ (R : Pair → Outcome Received → Type 0) (rooms : (s : Pair) (o : Out
   drains_same _ _ _ _ (ends s o f r e) xs _ _ _ (more _ p k m g u r' e' rest) ys q =
       let w = same s o p r r' xs (drains_gave rooms rest ++ ys) (q ∙ append_assoc (rooms s p r') (drains_gave rooms rest) ys) in
       let a : going o.answer ≡ going p.answer = ap (λ o. going o.answer) w.0 in
-      clash (cc)
+      (cc)
   drains_same _ _ _ _ (more s o k n f t r e rest) xs _ _ _ (ends _ p g r' e') ys q =
       let w = same s o p r r' (drains_gave rooms rest ++ xs) ys (sym (append_assoc (rooms s o r) (drains_gave rooms rest) xs) ∙ q) in
       let a : going o.answer ≡ going p.answer = ap (λ o. going o.answer) w.0 in
-      clash (cc)
+      (cc)
   drains_same _ _ _ _ (more s o k n f t r e rest) xs _ _ _ (more _ p l m g u r' e' rest') ys q =
       let w = same s o p r r' (drains_gave rooms rest ++ xs) (drains_gave rooms rest' ++ ys) (sym (append_assoc (rooms s o r) (drains_gave rooms rest) xs) ∙ q ∙ append_assoc (rooms s p r') (drains_gave rooms rest') ys) in
       let a : going o.answer ≡ going p.answer = ap (λ o. going o.answer) w.0 in
@@ -189,8 +188,8 @@ went_agree s Round d e gs hs (report, w, t, a, x, u) (report', w', t', b, y, v) 
 
 agree : (s : Pair) (c : Call) (d e : Deed) (gs hs : List ℕ) → Sorted s c d gs → Sorted s c e hs → Agree c d e gs hs
 agree s c d e gs hs (stopped a x) (stopped b y) = agree_same (x ∙ sym y)
-agree s c d e gs hs (stopped a x) (went b y) = clash (cc)
-agree s c d e gs hs (went a x) (stopped b y) = clash (cc)
+agree s c d e gs hs (stopped a x) (went b y) = (cc)
+agree s c d e gs hs (went a x) (stopped b y) = (cc)
 agree s c d e gs hs (went a x) (went b y) = went_agree s c d e gs hs x y
 
 pub one_outcome : OneOutcome

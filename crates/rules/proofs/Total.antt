@@ -11,7 +11,6 @@ use Rattle.rules.specs.Rounds.{HubReceives, hub_deaf, hub_hears_bytes, SeatRecei
 use Rattle.rules.specs.Roomiest.{hub_takes, seat_takes, onwards, drained, hub_drained, seat_drained, round_went, allowed}
 use Rattle.rules.specs.Laws.{Lined, Total, RoundsGranted, GoesOnByTaking}
 use Rattle.rules.proofs.Keeps.{Keeps, keeps_trans, drains_keep, hub_receives_keep, seat_receives_keep, hub_sends_keep}
-use Rattle.rules.proofs.Frames.{clash}
 use Rattle.rules.proofs.Blind.{hub_hears_blind, seat_hears_blind}
 
 -- a line may always give all its room
@@ -26,11 +25,11 @@ seat_takes_lem s i = cond_both (is_apart s.seat.phase) _ _ (λ o. SeatReceives s
 
 -- a receive that goes on was handed something
 hub_handed : (got : List ℕ) (w : LineView) (s : Pair) (k : ℕ) → going (hub_hears got w s).answer ≡ onward k → 0 < length got
-hub_handed [] w s k e = clash (cc)
+hub_handed [] w s k e = (cc)
 hub_handed (b ∷ bs) w s k e = omega arith
 
 seat_handed : (got : List ℕ) (w : LineView) (s : Pair) (k : ℕ) → going (seat_hears got w s).answer ≡ onward k → 0 < length got
-seat_handed [] w s k e = clash (cc)
+seat_handed [] w s k e = (cc)
 seat_handed (b ∷ bs) w s k e = omega arith
 
 -- so less waits than before
@@ -40,12 +39,12 @@ falls v n room w e h =
     omega (arith, l, h, length-take (handed v n) v.waiting, length-drop (handed v n) v.waiting)
 
 hub_falls : (s : Pair) (o : Outcome Received) (k : ℕ) → HubReceives s o → going o.answer ≡ onward k → length o.after.up.waiting < length s.up.waiting
-hub_falls s _ k (hub_deaf e) g = clash (cc)
+hub_falls s _ k (hub_deaf e) g = (cc)
 hub_falls s _ k (hub_hears_bytes room e f) g =
     falls s.up (lack s.hub.frame) room _ (ap (λ o. o.after.up) (hub_hears_blind (given s.up (lack s.hub.frame)) (left s.up (lack s.hub.frame) room) s)) (hub_handed _ _ s k g)
 
 seat_falls : (s : Pair) (o : Outcome Received) (k : ℕ) → SeatReceives s o → going o.answer ≡ onward k → length o.after.down.waiting < length s.down.waiting
-seat_falls s _ k (seat_deaf e) g = clash (cc)
+seat_falls s _ k (seat_deaf e) g = (cc)
 seat_falls s _ k (seat_hears_bytes room e f) g =
     falls s.down (lack s.seat.frame) room _ (ap (λ o. o.after.down) (seat_hears_blind (given s.down (lack s.seat.frame)) (left s.down (lack s.seat.frame) room) s)) (seat_handed _ _ s k g)
 

@@ -4,10 +4,8 @@ use Rattle.std.proofs.lemmas.Bool.{cond-true, cond-false, le-ltb, le-leb}
 use Rattle.fault.specs.declared.refusals.Refusal.{Refusal}
 use Rattle.fault.specs.declared.refusals.Refusal.TheVariants.{NoSession, NothingToFetch}
 use Rattle.layout.specs.Limits.{message_limit}
-use Rattle.layout.specs.Letters.{allowed}
-use Rattle.layout.specs.declared.letters.Letter.TheVariants as L
 use Rattle.layout.specs.declared.logouts.LogoutReason.TheVariants as X
-use Rattle.packet.specs.Values.{Value, Valid, encode, length_number, login_request, logout_request, unsequenced}
+use Rattle.packet.specs.Values.{Value, encode, length_number, login_request, logout_request, unsequenced}
 use Rattle.packet.proofs.Back.{length_encode}
 use Rattle.line.specs.Lines.{LineView, Sound, cleared, fits}
 use Rattle.message_log.specs.Meaning as Log
@@ -46,15 +44,15 @@ leaves_granted s a f p =
 
 -- a connect that is refused changes nothing, and one that is granted connects
 pub connect_refused : (how : How) (s : Pair) (e : Refusal) → (connect how s).answer ≡ Err e → connect how s ≡ refuses e s
-connect_refused Join s e h = let z : ◌≡◌ {A = ℕ} 0 1 = cc in absurd (omega arith)
-connect_refused Anew s e h = let z : ◌≡◌ {A = ℕ} 0 1 = cc in absurd (omega arith)
+connect_refused Join s e h = cc
+connect_refused Anew s e h = cc
 connect_refused (Fetch end) s e h = go (eqb s.held.session 0) (leb end (count s.held)) h
   where
     go : (a b : Bool) → (cond {A = Done} a (refuses NoSession s) (cond b (refuses NothingToFetch s) (done (connected (Fetch end) s)))).answer ≡ Err e →
         cond {A = Done} a (refuses NoSession s) (cond b (refuses NothingToFetch s) (done (connected (Fetch end) s))) ≡ refuses e s
     go true b h = let q : NoSession ≡ e = cc in ap (λ (x : Refusal). refuses x s) q
     go false true h = let q : NothingToFetch ≡ e = cc in ap (λ (x : Refusal). refuses x s) q
-    go false false h = let z : ◌≡◌ {A = ℕ} 0 1 = cc in absurd (omega arith)
+    go false false h = cc
 
 pub connect_granted : (how : How) (s : Pair) (x : Unit {0}) → (connect how s).answer ≡ Ok x → connect how s ≡ done (connected how s)
 connect_granted Join s x h = refl
@@ -63,8 +61,8 @@ connect_granted (Fetch end) s x h = go (eqb s.held.session 0) (leb end (count s.
   where
     go : (a b : Bool) → (cond {A = Done} a (refuses NoSession s) (cond b (refuses NothingToFetch s) (done (connected (Fetch end) s)))).answer ≡ Ok x →
         cond {A = Done} a (refuses NoSession s) (cond b (refuses NothingToFetch s) (done (connected (Fetch end) s))) ≡ done (connected (Fetch end) s)
-    go true b h = let z : ◌≡◌ {A = ℕ} 0 1 = cc in absurd (omega arith)
-    go false true h = let z : ◌≡◌ {A = ℕ} 0 1 = cc in absurd (omega arith)
+    go true b h = cc
+    go false true h = cc
     go false false h = refl
 
 -- what is asked for fits its bytes
@@ -78,12 +76,7 @@ number_fits Join log h = omega (arith, h.placed, h.places_within)
 number_fits Anew log h = omega arith
 number_fits (Fetch end) log h = omega arith
 
--- the login of an account can be written, and fits a line that is empty
-pub login_valid : (u c p : List ℕ) (s n : ℕ) → length u ≡ 5 → length c ≡ 8 → length p ≡ 8 → s < 256 → n < 256 ^ 8 → Valid (login_request spoken_version u c p s n)
-login_valid u c p s n a b d e f =
-    let l : length_number (login_request spoken_version u c p s n) ≡ 36 = simp length-append (omega arith) in
-    record { fields = (refl, a, b, d, e, f); fits = ap (allowed L.LoginRequest) l }
-
+-- the login of an account fits a line that is empty
 pub login_fits : (u c p : List ℕ) (s n : ℕ) (up : LineView) → length u ≡ 5 → length c ≡ 8 → length p ≡ 8 → Sound up → fits (cleared up) (encode (login_request spoken_version u c p s n)) ≡ true
 login_fits u c p s n up a b d h =
     let v : Value = login_request spoken_version u c p s n in

@@ -1,5 +1,5 @@
 -- A packet that was posted where the room alone decides, and what a send comes to by it.
-use Rattle.std.proofs.Common.{◌≡◌, ℕ, ◌≤◌, Bool, true, false, cond, List, length, Some, None, Ok, Err, Option, Result, sym, refl, ap, ◌∙◌, arith}
+use Rattle.std.proofs.Common.{◌≡◌, ℕ, ◌≤◌, Bool, true, false, cond, List, length, Some, None, Ok, Err, Option, Result, sym, refl, ap, ◌∙◌}
 use Rattle.std.proofs.lemmas.Bool.{cond-true, cond-false}
 use Rattle.fault.specs.declared.refusals.Refusal.{Refusal}
 use Rattle.fault.specs.declared.refusals.Refusal.TheVariants.{LineFull}
@@ -24,11 +24,11 @@ use Rattle.seat.specs.Ends.{unless_short}
 -- the room decided for it
 pub roomy_granted : (v : Value) (up : LineView) (x : Unit {0}) → roomy v up ≡ Ok x → fits up (encode v) ≡ true
 roomy_granted v up x =
-    cut (fits up (encode v)) _ _ (Ok x) _ (λ t e. t) (λ t e. let z : ◌≡◌ {A = ℕ} 0 1 = cc in absurd (omega arith))
+    cut (fits up (encode v)) _ _ (Ok x) _ (λ t e. t) (λ t e. cc)
 
 pub roomy_refused : (v : Value) (up : LineView) (e : Refusal) → roomy v up ≡ Err e → (fits up (encode v) ≡ false) × (e ≡ LineFull)
 roomy_refused v up e =
-    cut (fits up (encode v)) _ _ (Err e) _ (λ t q. let z : ◌≡◌ {A = ℕ} 0 1 = cc in absurd (omega arith)) (λ t q. (t, cc))
+    cut (fits up (encode v)) _ _ (Err e) _ (λ t q. cc) (λ t q. (t, cc))
 
 pub posts_refused : (v : Value) (up up' : LineView) (out out' : List ℕ) (r : Result (Unit {0}) Refusal) (y : Refusal) → r ≡ Err y → Posted v (posting v up (length out)) up out r up' out' → Valid v → packet_limit ≤ length out →
     (fits up (encode v) ≡ false) × (up' ≡ up) × (out' ≡ out)

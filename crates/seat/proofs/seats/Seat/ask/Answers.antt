@@ -13,7 +13,8 @@ use Rattle.rules.specs.Sides.{no_line, no_seat, seat_side}
 use Rattle.seat.specs.Asks.{fields_of}
 use Rattle.seat.specs.Ends.{side_of, answered}
 use Rattle.seat.specs.declared.seats.Seat.{Seat}
-use Rattle.seat.proofs.Asks.{emptied, asks_refused, asks_granted, session_fits, number_fits, login_valid, login_fits}
+use Rattle.seat.proofs.Asks.{emptied, asks_refused, asks_granted, session_fits, number_fits, login_fits}
+use Rattle.packet.proofs.Valids.{login_valid}
 use Rattle.seat.proofs.seats.Seat.ask.Goals as goal
 
 pub returns-in_err-may_connect : goal.returns-in_err-may_connect
@@ -41,7 +42,7 @@ write-requires g c =
     let en : asked_number c.args.how log ≡ c.number.result = sym (c.number.ensures ∙ ap (λ (x : Pair). x.seat.number) b) in
     let sound = g.met.G.Log.sound c.args.log.now in
     record {
-      valid = login_valid a.user a.computer a.protocol c.session.result c.number.result u d p
+      valid = login_valid spoken_version a.user a.computer a.protocol c.session.result c.number.result refl u d p
           (subst (λ (i : ℕ). i < 256) es (session_fits c.args.how log sound)) (subst (λ (i : ℕ). i < 256 ^ 8) en (number_fits c.args.how log sound));
       long = omega arith;
     }
