@@ -4,9 +4,6 @@ use Rattle.memory.proofs.Laid.{overlaid_is}
 use Rattle.framing.proofs.Messages.{message_laid, read_held}
 use Rattle.framing.proofs.posting.lay_message.Goals as goal
 
-pub head-requires : goal.head-requires
-head-requires g c = omega (arith, (g.met.G.Log.sound c.args.log.now).short (c.args.number - 1), c.requires.bytes)
-
 pub returns : goal.returns
 returns g c =
     let l = g.G.Log.view c.args.log.now in

@@ -1,9 +1,8 @@
-use Rattle.std.proofs.Common.{◌≡◌, ◌≤◌, length, Err, sym, ap, ◌∙◌, arith}
+use Rattle.std.proofs.Common.{◌≡◌, ◌≤◌, Err, sym, ap, ◌∙◌, arith}
 use Rattle.std.proofs.lemmas.Result.{err_from_is_err_and}
 use Rattle.packet.specs.Meanings.{value_of}
-use Rattle.packet.specs.Values.{encode}
 use Rattle.packet.proofs.Back.{length_encode}
-use Rattle.framing.proofs.Posts.{posted, unwritten, no_room, fitting, written_posting, written_size}
+use Rattle.framing.proofs.Posts.{unwritten, no_room, fitting}
 use Rattle.framing.proofs.posting.post.Goals as goal
 
 pub returns-then-room-size : goal.returns-then-room-size
@@ -20,13 +19,3 @@ returns-in_err-length g c =
     let e : c.from_residual.result ≡ Err x = r.1 ∙ ap Err r.2 in
     let h : c.size.result ≤ d.room = omega arith in
     unwritten v c.from_residual.result x d c.args.out.now c.write.new.out e (fitting v d c.size.result (c.size.ensures ∙ sym (length_encode v)) h) c.in_err-length.ensures
-
-pub returns : goal.returns
-returns g c =
-    let v = value_of c.args.packet in
-    let d = g.L.Line.view c.args.line.now in
-    let w = c.in_ok-length.ensures in
-    let n = c.in_ok-length.length in
-    let e : n ≡ length (encode v) = written_size v (length c.args.out.now) n (sym w.answer) in
-    let h : n ≤ d.room = omega (arith, c.size.ensures, length_encode v) in
-    posted v _ c.put.result d _ c.args.out.now _ n e h (written_posting v d _ n w.answer (fitting v d n e h)) w.buffer c.put.ensures

@@ -1,4 +1,4 @@
-use Rattle.std.proofs.Common.{◌≡◌, ℕ, ◌+◌, ◌-◌, ◌++◌, length, drop, sym, ap, ◌∙◌, arith}
+use Rattle.std.proofs.Common.{◌≡◌, ℕ, ◌+◌, ◌++◌, length, drop, sym, ap, ◌∙◌, arith}
 use Rattle.message_log.specs.Meaning.{nth}
 use Rattle.packet.specs.Values.{sequenced, encode}
 use Rattle.std.proofs.lemmas.Bool.{cond-false}
@@ -7,26 +7,6 @@ use Rattle.framing.specs.Posting.{posting_message}
 use Rattle.framing.proofs.Posts.{posted, refused, lacking}
 use Rattle.framing.proofs.Messages.{held, message_size, message_posting}
 use Rattle.framing.proofs.posting.post_message.Goals as goal
-
-pub overflow_add-size : goal.overflow_add-size
-overflow_add-size g c =
-    let e = held (g.G.Log.view c.args.log.now) c.args.number _ c.in_ok-length.ensures in
-    omega (arith, (g.met.G.Log.sound c.args.log.now).short (c.args.number - 1))
-
-pub overflow_cast-length : goal.overflow_cast-length
-overflow_cast-length g c =
-    let e = held (g.G.Log.view c.args.log.now) c.args.number _ c.in_ok-length.ensures in
-    omega (arith, (g.met.G.Log.sound c.args.log.now).short (c.args.number - 1))
-
-pub slice_bounds-put-end : goal.slice_bounds-put-end
-slice_bounds-put-end g c =
-    let e = held (g.G.Log.view c.args.log.now) c.args.number _ c.in_ok-length.ensures in
-    omega (arith, (g.met.G.Log.sound c.args.log.now).short (c.args.number - 1))
-
-pub lay_message-requires : goal.lay_message-requires
-lay_message-requires g c =
-    let e = held (g.G.Log.view c.args.log.now) c.args.number _ c.in_ok-length.ensures in
-    record { there = e.0; bytes = e.1; room = omega arith }
 
 pub returns-then-room-size : goal.returns-then-room-size
 returns-then-room-size g c =

@@ -1,4 +1,4 @@
-use Rattle.std.proofs.Common.{◌≡◌, ℕ, ◌^◌, ◌<◌, true, false, [], length, Err, Result, sym, refl, ap, ◌∙◌, subst, arith, rules}
+use Rattle.std.proofs.Common.{◌≡◌, true, false, length, Err, Result, refl, ap, ◌∙◌, arith, rules}
 use Rattle.std.proofs.lemmas.Result.{err_from_is_err_and}
 use Rattle.std.proofs.lemmas.Bool.{cond-true, le-ltb}
 use Rattle.fault.specs.declared.refusals.Refusal.{Refusal}
@@ -6,15 +6,11 @@ use Rattle.layout.specs.Limits.{packet_limit}
 use Rattle.packet.specs.Values.{encode, login_request}
 use Rattle.line.specs.Lines.{LineView, cleared, fits}
 use Rattle.account.specs.Logins.{spoken_version}
-use Rattle.rules.specs.State.{Pair}
-use Rattle.rules.specs.Calls.{asked_session, asked_number}
 use Rattle.rules.specs.Rounds.{too_short}
-use Rattle.rules.specs.Sides.{no_line, no_seat, seat_side}
 use Rattle.seat.specs.Asks.{fields_of}
 use Rattle.seat.specs.Ends.{side_of, answered}
 use Rattle.seat.specs.declared.seats.Seat.{Seat}
-use Rattle.seat.proofs.Asks.{emptied, asks_refused, asks_granted, session_fits, number_fits, login_fits}
-use Rattle.packet.proofs.Valids.{login_valid}
+use Rattle.seat.proofs.Asks.{emptied, asks_refused, asks_granted, login_fits}
 use Rattle.seat.proofs.seats.Seat.ask.Goals as goal
 
 pub returns-in_err-may_connect : goal.returns-in_err-may_connect
@@ -29,23 +25,6 @@ returns-in_err-may_connect g c down frame =
     let short : too_short out ≡ false = le-ltb (length out) packet_limit (omega arith) in
     ap (λ (x : Result (Unit {0}) Refusal). answered x s) (r.1 ∙ ap (λ (y : Refusal). Err y) r.2)
     ∙ asks_refused c.args.how s e short (c.may_connect.ensures s ∙ c.in_err-may_connect.was) refl
-
-pub write-requires : goal.write-requires
-write-requires g c =
-    let log = g.G.Log.view c.args.log.now in
-    let a = c.args.account.now in
-    let u : length a.user ≡ 5 = search rules in
-    let d : length a.computer ≡ 8 = search rules in
-    let p : length a.protocol ≡ 8 = search rules in
-    let b = c.asking.ensures (seat_side no_seat log no_line no_line (fields_of a) [] []) in
-    let es : asked_session c.args.how log ≡ c.session.result = sym (c.session.ensures ∙ ap (λ (x : Pair). x.seat.session) b) in
-    let en : asked_number c.args.how log ≡ c.number.result = sym (c.number.ensures ∙ ap (λ (x : Pair). x.seat.number) b) in
-    let sound = g.met.G.Log.sound c.args.log.now in
-    record {
-      valid = login_valid spoken_version a.user a.computer a.protocol c.session.result c.number.result refl u d p
-          (subst (λ (i : ℕ). i < 256) es (session_fits c.args.how log sound)) (subst (λ (i : ℕ). i < 256 ^ 8) en (number_fits c.args.how log sound));
-      long = omega arith;
-    }
 
 pub returns : goal.returns
 returns g c down frame =
