@@ -15,23 +15,6 @@ use Rattle.line.specs.Lines.{LineView, Put, joined, fits}
 use Rattle.message_log.specs.Calls.{settled, fronted}
 use Rattle.framing.specs.Posting.{Posted, posting, roomy, went}
 
--- a granted writing counts the packet
-granted_size : (v : Value) (r : Result ℕ PacketFault) (n : ℕ) → (r ≡ Ok (length_number v) → n ≡ length_number v + 2) → granting r ≡ Ok n → r ≡ writable v → n ≡ length_number v + 2
-granted_size v (Ok k) n f e w =
-    cut (ltb length_limit (length_number v)) _ _ (Ok k) _ (λ t x. (cc))
-    (λ t. cut (allowed (letter v) (length_number v)) _ _ (Ok k) _
-    (λ u. cut (widths v) _ _ (Ok k) _ (λ y x. f (sym x)) (λ y x. (cc)))
-    (λ u x. (cc)))
-    (sym w)
-granted_size v (Err fault) n f e w = (cc)
-
-pub written_size : (v : Value) (room n : ℕ) → writing v room ≡ Ok n → n ≡ length (encode v)
-written_size v room n e =
-    cut (ltb room (length_number v + 2)) _ _ (Ok n) _ (λ t x. (cc))
-    (λ t x. granted_size v (writable v) n (λ q. let y : granting (Ok (length_number v)) ≡ Ok n = ap granting (sym q) ∙ x in cc) x refl)
-    e
-    ∙ sym (length_encode v)
-
 pub fitting : (v : Value) (d : LineView) (n : ℕ) → n ≡ length (encode v) → n ≤ d.room → fits d (encode v) ≡ true
 fitting v d n e h = le-leb (length (encode v)) d.room (omega arith)
 
@@ -71,6 +54,3 @@ unwritten v r x d o o' e b w =
 -- a packet that the line has no room for
 pub no_room : (v : Value) (d : LineView) (o : List ℕ) (n : ℕ) → n ≡ length (encode v) → d.room < n → Posted v (posting v d (length o)) d o (Err LineFull) d o
 no_room v d o n e h = refused v (posting v d (length o)) LineFull d o (cond-false _ _ _ (lacking v d n e h))
-
-pub written_posting : (v : Value) (d : LineView) (k n : ℕ) → Ok n ≡ writing v k → fits d (encode v) ≡ true → posting v d k ≡ roomy v d
-written_posting v d k n e b = room_posting v d k (Ok n) b e ∙ sym (cond-true _ _ _ b)

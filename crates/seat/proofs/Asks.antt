@@ -65,17 +65,6 @@ connect_granted (Fetch end) s x h = go (eqb s.held.session 0) (leb end (count s.
     go false true h = cc
     go false false h = refl
 
--- what is asked for fits its bytes
-pub session_fits : (how : How) (log : Meaning) → Log.Sound log → asked_session how log < 256
-session_fits Join log h = omega (arith, h.byte)
-session_fits Anew log h = omega arith
-session_fits (Fetch end) log h = omega (arith, h.byte)
-
-pub number_fits : (how : How) (log : Meaning) → Log.Sound log → asked_number how log < 256 ^ 8
-number_fits Join log h = omega (arith, h.placed, h.places_within)
-number_fits Anew log h = omega arith
-number_fits (Fetch end) log h = omega arith
-
 -- the login of an account fits a line that is empty
 pub login_fits : (u c p : List ℕ) (s n : ℕ) (up : LineView) → length u ≡ 5 → length c ≡ 8 → length p ≡ 8 → Sound up → fits (cleared up) (encode (login_request spoken_version u c p s n)) ≡ true
 login_fits u c p s n up a b d h =

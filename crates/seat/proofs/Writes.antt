@@ -30,14 +30,6 @@ pub roomy_refused : (v : Value) (up : LineView) (e : Refusal) → roomy v up ≡
 roomy_refused v up e =
     cut (fits up (encode v)) _ _ (Err e) _ (λ t q. cc) (λ t q. (t, cc))
 
-pub posts_refused : (v : Value) (up up' : LineView) (out out' : List ℕ) (r : Result (Unit {0}) Refusal) (y : Refusal) → r ≡ Err y → Posted v (posting v up (length out)) up out r up' out' → Valid v → packet_limit ≤ length out →
-    (fits up (encode v) ≡ false) × (up' ≡ up) × (out' ≡ out)
-posts_refused v up up' out out' r y e p h l = (
-  (roomy_refused v up y (sym (posting_valid v up (length out) h l) ∙ sym p.answer ∙ e)).0,
-  p.line ∙ ap (λ (q : Result (Unit {0}) Refusal). settled q (joined up (encode v)) up) e,
-  p.buffer ∙ ap (λ (q : Result (Unit {0}) Refusal). settled q (fronted (encode v) out) out) e,
-)
-
 -- with the seat's fetch requested, or not
 abbrev pub requested_in : Bool → Pair → Pair
 requested_in requested s =
