@@ -1,6 +1,5 @@
 -- Laws of runs.
 use Rattle.std.proofs.Common.{◌≡◌, ℕ, ◌<◌, ◌≤◌, min, Bool, true, false, cond, ◌⊎◌, List, [], ◌++◌, length, take, drop, Ok, Err, vec_items, Result, sym, refl, ap, ◌∙◌, subst, inl, inr, append_assoc, append-nil, arith, leb-false}
-use borrow.Author.Tests.{clash}
 use Rattle.std.proofs.lemmas.List.{nil_from_length, take_at, take_min, drop_at}
 use Rattle.std.proofs.lemmas.Bool.{cases_lt}
 use Rattle.std.specs.Result.{is_ok}
@@ -24,14 +23,14 @@ answered b = cond b (Ok tt) (Err LineFull)
 -- what a granted put and a refused put tell
 granted_by : (b : Bool) (v : LineView) {w : LineView} (p : List ℕ) → Ok tt ≡ answered b → w ≡ cond b (joined v p) v → w ≡ joined v p
 granted_by true v p e h = h
-granted_by false v p e h = let z : ◌≡◌ {A = ℕ} 0 1 = cc in absurd (omega arith)
+granted_by false v p e h = cc
 
 pub granted : {v w : LineView} {p : List ℕ} → Put v p (Ok tt) w → w ≡ joined v p
 granted {v} {w} {p} h = granted_by (fits v p) v p h.answer h.after
 
 refused_by : (b : Bool) {e : Refusal} (v : LineView) {w : LineView} (p : List ℕ) → Err e ≡ answered b → w ≡ cond b (joined v p) v →
     (b ≡ false) × (e ≡ LineFull) × (w ≡ v)
-refused_by true v p f h = let z : ◌≡◌ {A = ℕ} 0 1 = cc in absurd (omega arith)
+refused_by true v p f h = cc
 refused_by false v p f h = (refl, cc, h)
 
 pub lacking : {v w : LineView} {p : List ℕ} {e : Refusal} → Put v p (Err e) w → (v.room < length p) × (e ≡ LineFull) × (w ≡ v)
@@ -102,8 +101,8 @@ pub offered : {v w : LineView} {a b : Account} (piece : List ℕ) (r : Result (U
     act ≡ cond granted A.Put A.Refused → Put v piece r w → Noted a act (length piece) w b → Offered v a piece granted w b
 offered {v} {w} {a} {b} piece (Ok _) true act e f p n = λ input size fed i.
     did_put input size fed i p (subst (λ q. Noted a q (length piece) w b) f n)
-offered piece (Ok _) false act e f p n = absurd (clash e)
-offered piece (Err _) true act e f p n = absurd (clash (sym e))
+offered piece (Ok _) false act e f p n = cc
+offered piece (Err _) true act e f p n = cc
 offered {v} {w} {a} {b} piece (Err _) false act e f p n = (
   λ input size fed i. did_refuse input size fed i p (subst (λ q. Noted a q (length piece) w b) f n),
   (lacking p).0,
@@ -114,14 +113,14 @@ module _ (v : LineView) (a : Account) (piece : List ℕ) (w : LineView) (b : Acc
   module _ (input : List ℕ) (size : ℕ) (fed : List ℕ) (i : piece ≡ next_piece input size fed) where
     pub went_in : (r : Bool) → r ≡ true → Offered v a piece r w b → Step input size (pump v fed a) (pump w (fed ++ piece) b)
     went_in true e h = h input size fed i
-    went_in false e h = absurd (clash e)
+    went_in false e h = cc
 
     pub fitted : (r : Bool) → length piece ≤ v.room → Offered v a piece r w b → Step input size (pump v fed a) (pump w (fed ++ piece) b)
     fitted true l h = h input size fed i
     fitted false l h = absurd (omega (arith, h.1))
 
     pub stayed_out : (r : Bool) → r ≡ false → Offered v a piece r w b → Step input size (pump v fed a) (pump w fed b)
-    stayed_out true e h = absurd (clash (sym e))
+    stayed_out true e h = cc
     stayed_out false e h = h.0 input size fed i
 
 abbrev start : LineView → Pump

@@ -1,6 +1,6 @@
 use Rattle.std.proofs.Common.{◌≡◌, ◌+◌, ◌++◌, length, take, drop, vec_items, refl, ap, ◌∙◌, arith}
 use Rattle.std.proofs.lemmas.List.{take_at, with_items_is}
-use Rattle.std.proofs.lemmas.Result.{IfOk-weaker}
+use Rattle.std.proofs.lemmas.Result.{on_ok_weaker}
 use Rattle.line.proofs.Takes.{front_length, rest_length}
 use Rattle.line.specs.Lines.{handed}
 use Rattle.pumping.proofs.Laws.{did_take}
@@ -17,8 +17,8 @@ returns g c =
     ∙ take_at (take k waiting) (drop k c.as_mut_slice.result.now) k (front_length t) in
     let fewer : length (g.L.Line.view c.take-taken.new.self).waiting + handed (g.L.Line.view c.args.line.now) s.buffer.len ≡ length waiting =
     omega (arith, rest_length t, t.count, c.as_mut_slice.ensures.len) in
-    IfOk-weaker c.note.result _ _
-    (λ _ n. record {
+    on_ok_weaker c.note.result
+    (λ n. record {
       step = λ input fed.
           did_take input s.buffer.len fed s.account c.receive.new.self c.as_mut_slice.ensures.len t c.in_ok-receive.ensures.deeds
           (c.in_ok-receive.ensures.out ∙ ap (λ q. vec_items s.account.out ++ q) piece) n;
