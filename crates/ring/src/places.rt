@@ -1,7 +1,7 @@
 //! Copies to and from the places of a ring, each in at most two parts.
 // What does not go round the end is one copy: a second one, of no byte, was tried, and halved the speed of pieces
 // of 64 bytes.
-ghost use Rattle.std.specs.Prelude.{◌≡◌, ◌+◌, ◌<◌, ◌≤◌, length};
+ghost use Rattle.std.specs.Prelude.{◌≡◌, ◌<◌, ◌≤◌, length};
 ghost use Rattle.line.specs.Sizes.{largest_size};
 ghost use Rattle.ring.specs.Rings.{Onward, LaidRound, ringed};
 

@@ -1,10 +1,9 @@
 //! The straight line, and how it is a line.
-ghost use Rattle.std.specs.Prelude.{◌≡◌, ◌+◌, ◌≤◌, length, vec_len};
+ghost use Rattle.std.specs.Prelude.{◌≡◌, vec_len};
 ghost use Rattle.std.proofs.Common.{sym};
 ghost use Rattle.std.proofs.Math.Nat.{sub-le};
 ghost use Rattle.line.specs.Lines.{fresh};
 ghost use Rattle.line.specs.Making.{Makes};
-ghost use Rattle.memory.specs.Memory.{laid};
 ghost use Rattle.line.specs.Sizes.{LineSize};
 ghost use Rattle.straight.specs.Straights.{InOrder, straight_view};
 ghost use Rattle.straight.specs.Views.{straight_sound};
