@@ -7,6 +7,7 @@ use crate::pieces::PieceSize;
 use std::alloc::{AllocError, Global};
 
 /// The buffer that is taken into, as long as a piece, and the account of what was done.
+// The line is lent to each call and is no field: of a `&mut` in it each method had to say that it stays the same.
 #[derive(Drop)]
 pub(crate) struct Pumper {
     pub(crate) buffer: Vec<u8>,

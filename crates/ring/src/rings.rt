@@ -15,8 +15,7 @@ use layout::PACKET_LIMIT;
 use line::{Line, SteadyLine, allow, is_line_size};
 
 /// A line whose memory is used round and round.
-// No `VecDeque`: the memory is lent once, with the size that was chosen as the program runs, and no put may ask
-// for more of it.
+// No `VecDeque`: the memory is given once, of a size that is chosen at run time, and no put may ask for more.
 #[derive(Drop)]
 pub struct Ring {
     bytes: Vec<u8>,
