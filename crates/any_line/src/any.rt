@@ -1,11 +1,10 @@
 //! The enum over the kinds, and how it is a line.
-ghost use Rattle.std.proofs.Math.Nat.{sub-le};
 ghost use Rattle.any_line.specs.declared.any.AnyLine.TheVariants as K;
-ghost use Rattle.paced.specs.Pacing.{paced_view};
-ghost use Rattle.ring.specs.contracts.rings.RingLine.TheImpl.{ghosts as ring_line};
-ghost use Rattle.straight.specs.contracts.straights.StraightLine.TheImpl.{ghosts as straight_line};
 ghost use Rattle.paced.specs.Views.{paced_sound};
-ghost use Rattle.any_line.specs.Kinds.{of_ring, of_straight};
+ghost use Rattle.ring.specs.contracts.rings.RingLine.TheImpl.Laws as ring;
+ghost use Rattle.ring.specs.contracts.rings.RingSteadyLine.TheImpl.Laws as steady_ring;
+ghost use Rattle.straight.specs.contracts.straights.StraightLine.TheImpl.Laws as straight;
+ghost use Rattle.straight.specs.contracts.straights.StraightSteadyLine.TheImpl.Laws as steady_straight;
 
 use fault::Refusal;
 use line::{Line, SteadyLine};
@@ -22,67 +21,54 @@ pub enum AnyLine {
     PacedStraight(Paced<Straight>),
 }
 
+/// What a call answers at the line in the enum, whichever kind it is.
+macro_rules! at_each {
+    ($any:expr, $line:ident => $call:expr) => {
+        match $any {
+            AnyLine::Ring($line) => $call,
+            AnyLine::Straight($line) => $call,
+            AnyLine::PacedRing($line) => $call,
+            AnyLine::PacedStraight($line) => $call,
+        }
+    };
+}
+
 impl Line for AnyLine {
-    ghost view = { λ a. elim a [ K.Ring s ↦ ring_line.view s | K.Straight s ↦ straight_line.view s | K.PacedRing s ↦ paced_view (ring_line.view s.line) s.pace | K.PacedStraight s ↦ paced_view (straight_line.view s.line) s.pace ] };
+    ghost view = { λ a. elim a [ K.Ring s ↦ ⟦<Ring as Line>⟧.view s | K.Straight s ↦ ⟦<Straight as Line>⟧.view s | K.PacedRing s ↦ ⟦<Paced<Ring> as Line>⟧.view s | K.PacedStraight s ↦ ⟦<Paced<Straight> as Line>⟧.view s ] };
 
     ghost sound = { elim [
-      | K.Ring s ↦ of_ring s
-      | K.Straight s ↦ of_straight s
-      | K.PacedRing s ↦ paced_sound (of_ring s.line) s.ok
-      | K.PacedStraight s ↦ paced_sound (of_straight s.line) s.ok
+      | K.Ring s ↦ ring.sound-law s
+      | K.Straight s ↦ straight.sound-law s
+      | K.PacedRing s ↦ paced_sound (ring.sound-law s.line) s.ok
+      | K.PacedStraight s ↦ paced_sound (straight.sound-law s.line) s.ok
     ] };
 
     fn waiting(&self) -> usize {
-        match self {
-            AnyLine::Ring(line) => line.waiting(),
-            AnyLine::Straight(line) => line.waiting(),
-            AnyLine::PacedRing(line) => line.waiting(),
-            AnyLine::PacedStraight(line) => line.waiting(),
-        }
+        at_each!(self, line => line.waiting())
     }
 
     fn room(&self) -> usize {
-        match self {
-            AnyLine::Ring(line) => line.room(),
-            AnyLine::Straight(line) => line.room(),
-            AnyLine::PacedRing(line) => line.room(),
-            AnyLine::PacedStraight(line) => line.room(),
-        }
+        at_each!(self, line => line.room())
     }
 
     fn put(&mut self, piece: &[u8]) -> Result<(), Refusal> {
-        match self {
-            AnyLine::Ring(line) => line.put(piece),
-            AnyLine::Straight(line) => line.put(piece),
-            AnyLine::PacedRing(line) => line.put(piece),
-            AnyLine::PacedStraight(line) => line.put(piece),
-        }
+        at_each!(self, line => line.put(piece))
     }
 
     fn take(&mut self, buffer: &mut [u8]) -> usize {
-        match self {
-            AnyLine::Ring(line) => line.take(buffer),
-            AnyLine::Straight(line) => line.take(buffer),
-            AnyLine::PacedRing(line) => line.take(buffer),
-            AnyLine::PacedStraight(line) => line.take(buffer),
-        }
+        at_each!(self, line => line.take(buffer))
     }
 
     fn clear(&mut self) {
-        match self {
-            AnyLine::Ring(line) => line.clear(),
-            AnyLine::Straight(line) => line.clear(),
-            AnyLine::PacedRing(line) => line.clear(),
-            AnyLine::PacedStraight(line) => line.clear(),
-        }
+        at_each!(self, line => line.clear());
     }
 }
 
 impl SteadyLine for AnyLine {
     ghost within = { elim [
-      | K.Ring s ↦ sub-le s.bytes.len s.count
-      | K.Straight s ↦ sub-le s.bytes.len s.end
-      | K.PacedRing s ↦ sub-le s.line.bytes.len s.line.count
-      | K.PacedStraight s ↦ sub-le s.line.bytes.len s.line.end
+      | K.Ring s ↦ steady_ring.within-law s
+      | K.Straight s ↦ steady_straight.within-law s
+      | K.PacedRing s ↦ steady_ring.within-law s.line
+      | K.PacedStraight s ↦ steady_straight.within-law s.line
     ] };
 }

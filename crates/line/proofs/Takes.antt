@@ -40,31 +40,29 @@ module _ {v w : LineView} {b f : List ℕ} {k : ℕ} (t : Taken v b k w f) where
   taken_whole = ap (λ q. take k v.waiting ++ q) t.rest ∙ take-append-drop k v.waiting
 
 -- A take into the first n places of a buffer s, as a change of all of it.
-module _ {v w : LineView} {f : List ℕ} {k : ℕ} (s : List ℕ) (n : ℕ) (t : Taken v (take (n - 0) s) k w f) where
-  part_most : k ≤ length (take (n - 0) s)
+module _ {v w : LineView} {f : List ℕ} {k : ℕ} (s : List ℕ) (n : ℕ) (t : Taken v (take n s) k w f) where
+  part_most : k ≤ length (take n s)
   part_most = omega (arith, t.count)
 
-  pub part_front : f ++ post_of 0 (n - 0) s ≡ take k v.waiting ++ drop k s
+  pub part_front : f ++ post_of 0 n s ≡ take k v.waiting ++ drop k s
   part_front =
-      ap (λ q. q ++ drop (n - 0) s) t.front
-      ∙ append_assoc (take k v.waiting) (drop k (take (n - 0) s)) (drop (n - 0) s)
+      ap (λ q. q ++ drop n s) t.front
+      ∙ append_assoc (take k v.waiting) (drop k (take n s)) (drop n s)
       ∙ ap (λ q. take k v.waiting ++ q)
-      (sym (drop-append-le k (take (n - 0) s) (drop (n - 0) s) part_most) ∙ ap (drop k) (take-append-drop (n - 0) s))
+      (sym (drop-append-le k (take n s) (drop n s) part_most) ∙ ap (drop k) (take-append-drop n s))
 
-  pub part_length : length (f ++ post_of 0 (n - 0) s) ≡ length s
+  pub part_length : length (f ++ post_of 0 n s) ≡ length s
   part_length =
       let h = part_most in
-      let l = length-take (n - 0) s in
+      let l = length-take n s in
       ap length part_front ∙ simp (length-append, length-drop) (omega (arith, front_length t))
 
   -- the piece that came, read back from the buffer
-  pub part_piece : take (k - 0) (f ++ post_of 0 (n - 0) s) ≡ take k v.waiting
-  part_piece =
-      let l : length (take k v.waiting) ≡ k - 0 = omega (arith, front_length t) in
-      ap (take (k - 0)) part_front ∙ take_at (take k v.waiting) (drop k s) (k - 0) l
+  pub part_piece : take k (f ++ post_of 0 n s) ≡ take k v.waiting
+  part_piece = ap (take k) part_front ∙ take_at (take k v.waiting) (drop k s) k (front_length t)
 
   -- what no take reaches stays
-  pub part_rest : (m : ℕ) → k ≤ m → drop m (f ++ post_of 0 (n - 0) s) ≡ drop m s
+  pub part_rest : (m : ℕ) → k ≤ m → drop m (f ++ post_of 0 n s) ≡ drop m s
   part_rest m h =
       let e : m ≡ k + (m - k) = omega arith in
       ap (drop m) part_front

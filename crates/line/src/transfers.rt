@@ -20,10 +20,10 @@ pub fn transfer<F: Line, T: Line>(
     let before = from.waiting();
     loop {
         let most = buffer.len().min(to.room());
-        let taken = from.take(&mut buffer[0..most]);
+        let taken = from.take(&mut buffer[..most]);
         if taken == 0 {
             return Ok(before - from.waiting());
         }
-        to.put(&buffer[0..taken])?;
+        to.put(&buffer[..taken])?;
     }
 }

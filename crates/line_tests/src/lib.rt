@@ -4,7 +4,7 @@
 #[cfg(test)]
 mod tests {
     use any_line::AnyLine;
-    use fault::Refusal;
+    use fault::{Refusal, Unmade};
     use line::{Line, SMALLEST_SIZE, transfer};
     use paced::Paced;
     use ring::Ring;
@@ -12,23 +12,19 @@ mod tests {
     use std::test::Fail;
     use straight::Straight;
 
-    fn ring(heap: Global) -> Result<Ring, Refusal> {
-        match vec![in heap; 0u8; SMALLEST_SIZE] {
-            Ok(bytes) => Ok(Ring::new(bytes)?),
-            Err(_) => Err(Refusal::OutOfMemory),
-        }
-    }
-
-    fn straight(heap: Global) -> Result<Straight, Refusal> {
-        match vec![in heap; 0u8; SMALLEST_SIZE] {
-            Ok(bytes) => Ok(Straight::new(bytes)?),
-            Err(_) => Err(Refusal::OutOfMemory),
-        }
+    /// A line of the smallest size, as `new` makes it of its memory.
+    fn smallest<L, F: FnOnce(Vec<u8>) -> Result<L, Unmade<Vec<u8>>>>(
+        heap: Global,
+        new: F,
+    ) -> Result<L, Refusal>
+        requires { F.IsAlwaysCallable new }
+    {
+        Ok(new(vec![in heap; 0u8; SMALLEST_SIZE]?)?)
     }
 
     #[test]
     fn ring_wraps(rt: HostRuntime) -> Result<(), Fail> {
-        let mut line = ring(rt.alloc())?;
+        let mut line = smallest(rt.alloc(), Ring::new)?;
         let mut buffer = vec![in rt.alloc(); 0u8; 4105]?;
         line.put(buffer.as_slice())?;
         assert_eq!(rt; line.take(buffer.as_mut_slice()), 4105);
@@ -36,32 +32,30 @@ mod tests {
         assert_eq!(rt; line.room(), SMALLEST_SIZE - 5);
         let mut out = [b'-'; 6];
         assert_eq!(rt; line.take(&mut out), 5);
-        assert!(rt; &out[0..6] == b"hello-".as_slice());
+        assert!(rt; &out[..] == b"hello-".as_slice());
         Ok(())
     }
 
     #[test]
     fn straight_gives_room_back_when_empty(rt: HostRuntime) -> Result<(), Fail> {
-        let mut line = straight(rt.alloc())?;
+        let mut line = smallest(rt.alloc(), Straight::new)?;
         line.put(b"ab")?;
         let mut out = [b'-'; 3];
         assert_eq!(rt; line.take(&mut out), 1);
         assert_eq!(rt; line.room(), SMALLEST_SIZE - 2);
         assert_eq!(rt; line.take(&mut out), 1);
         assert_eq!(rt; line.room(), SMALLEST_SIZE);
-        assert!(rt; &out[0..3] == b"b--".as_slice());
+        assert!(rt; &out[..] == b"b--".as_slice());
         Ok(())
     }
 
     #[test]
     fn layers_nest(rt: HostRuntime) -> Result<(), Fail> {
-        let inner: Paced<Ring> = match Paced::new(ring(rt.alloc())?, 2) {
-            Ok(line) => line,
-            Err(_) => return Err(Fail::new("inner")),
+        let Ok(inner) = Paced::new(smallest(rt.alloc(), Ring::new)?, 2) else {
+            return Err(Fail::new("inner"));
         };
-        let mut line: Paced<Paced<Ring>> = match Paced::new(inner, 3) {
-            Ok(line) => line,
-            Err(_) => return Err(Fail::new("outer")),
+        let Ok(mut line) = Paced::new(inner, 3) else {
+            return Err(Fail::new("outer"));
         };
         line.put(b"hello")?;
         let mut out = [0u8; 9];
@@ -74,39 +68,33 @@ mod tests {
 
     #[test]
     fn refused_makings_give_back(rt: HostRuntime) -> Result<(), Fail> {
-        match Ring::new(vec![in rt.alloc(); 9u8; SMALLEST_SIZE - 1]?) {
-            Ok(_) => return Err(Fail::new("made")),
-            Err(unmade) => {
-                assert_eq!(rt; unmade.refusal.number(), 15);
-                assert_eq!(rt; unmade.given.len(), SMALLEST_SIZE - 1);
-            }
-        }
-        match Paced::new(straight(rt.alloc())?, 0) {
-            Ok(_) => Err(Fail::new("made")),
-            Err(unmade) => {
-                assert_eq!(rt; unmade.given.room(), SMALLEST_SIZE);
-                Ok(())
-            },
-        }
+        let Err(unmade) = Ring::new(vec![in rt.alloc(); 9u8; SMALLEST_SIZE - 1]?) else {
+            return Err(Fail::new("made"));
+        };
+        assert_eq!(rt; unmade.refusal.number(), 15);
+        assert_eq!(rt; unmade.given.len(), SMALLEST_SIZE - 1);
+        let Err(unmade) = Paced::new(smallest(rt.alloc(), Straight::new)?, 0) else {
+            return Err(Fail::new("made"));
+        };
+        assert_eq!(rt; unmade.given.room(), SMALLEST_SIZE);
+        Ok(())
     }
 
     #[test]
     fn transfers_between_kinds(rt: HostRuntime) -> Result<(), Fail> {
-        let mut from = AnyLine::Straight(straight(rt.alloc())?);
-        let mut to = ring(rt.alloc())?;
+        let mut from = AnyLine::Straight(smallest(rt.alloc(), Straight::new)?);
+        let mut to = smallest(rt.alloc(), Ring::new)?;
         from.put(b"hello, line")?;
         let mut buffer = [0u8; 4];
         assert_eq!(rt; transfer(&mut from, &mut to, &mut buffer)?, 11);
         assert_eq!(rt; from.waiting(), 0);
         let mut out = [b'-'; 12];
         assert_eq!(rt; to.take(&mut out), 11);
-        assert!(rt; &out[0..12] == b"hello, line-".as_slice());
-        match transfer(&mut to, &mut from, &mut []) {
-            Ok(_) => Err(Fail::new("moved")),
-            Err(refusal) => {
-                assert_eq!(rt; refusal.number(), 14);
-                Ok(())
-            },
-        }
+        assert!(rt; &out[..] == b"hello, line-".as_slice());
+        let Err(refusal) = transfer(&mut to, &mut from, &mut []) else {
+            return Err(Fail::new("moved"));
+        };
+        assert_eq!(rt; refusal.number(), 14);
+        Ok(())
     }
 }

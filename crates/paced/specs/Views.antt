@@ -1,7 +1,7 @@
 -- A pacing layer keeps the meaning of a line, by what the line under it means alone.
 use mathlib.Core.Path.{◌≡◌, ap, ◌∙◌}
 use mathlib.Core.List.{List, ◌++◌}
-use Prim.Native.Nat.{ℕ, ◌-◌, min}
+use Prim.Native.Nat.{ℕ, min}
 use native.Mathlib.Omega.{arith}
 use borrow.Rule.Slice.PartMut.{post_of}
 use lib.ListN.{length, take, length-take}
@@ -17,10 +17,10 @@ smallest : (waiting buffer limit pace most : ℕ) → most ≡ min buffer pace �
     min (min waiting most) limit ≡ min (min waiting buffer) (min limit pace)
 smallest waiting buffer limit pace most e = omega arith
 
-pub paced_take : {v w : LineView} {f : List ℕ} {k : ℕ} (b : List ℕ) (pace most : ℕ) → Taken v (take (most - 0) b) k w f →
-    most ≡ min (length b) pace → Taken (paced_view v pace) b k (paced_view w pace) (f ++ post_of 0 (most - 0) b)
+pub paced_take : {v w : LineView} {f : List ℕ} {k : ℕ} (b : List ℕ) (pace most : ℕ) → Taken v (take most b) k w f →
+    most ≡ min (length b) pace → Taken (paced_view v pace) b k (paced_view w pace) (f ++ post_of 0 most b)
 paced_take {v} {w} {f} {k} b pace most t e =
-    let l : length (take (most - 0) b) ≡ most = length-take (most - 0) b ∙ omega arith in
+    let l : length (take most b) ≡ most = length-take most b ∙ omega arith in
     record {
       count =
           t.count

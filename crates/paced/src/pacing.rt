@@ -6,7 +6,7 @@ ghost use Rattle.paced.specs.Views.{paced_sound};
 
 use fault::{Refusal, Unmade};
 use layout::PACKET_LIMIT;
-use line::{Line, SteadyLine};
+use line::{Line, SteadyLine, allow};
 
 /// The largest number that a layer paces by: the longest packet.
 pub const LARGEST_PACE: usize = PACKET_LIMIT;
@@ -23,14 +23,9 @@ impl<L: Line> Paced<L> {
     /// A layer over the line given that hands over at most so many bytes a take. A number outside the rules is
     /// refused.
     pub fn new(line: L, pace: usize) -> Result<Paced<L>, Unmade<L>>
-        ensures { Makes (Pace pace) (λ s. paced_view (L.Line.view s.line) s.pace ≡ paced_view (L.Line.view line) pace) line result }
+        ensures { Makes (Pace pace) (λ s. ⟦<Paced<L> as Line>⟧.view s ≡ paced_view (L.Line.view line) pace) line result }
     {
-        if pace == 0 || pace > LARGEST_PACE {
-            return Err(Unmade {
-                refusal: Refusal::SizeOutOfRange,
-                given: line,
-            });
-        }
+        let line = allow((1..=LARGEST_PACE).contains(&pace), line)?;
         Ok(Paced { line, pace })
     }
 }
@@ -54,7 +49,7 @@ impl<L: Line> Line for Paced<L> {
 
     fn take(&mut self, buffer: &mut [u8]) -> usize {
         let most = buffer.len().min(self.pace);
-        self.line.take(&mut buffer[0..most])
+        self.line.take(&mut buffer[..most])
     }
 
     fn clear(&mut self) {

@@ -4,6 +4,7 @@ ghost use Rattle.pump.specs.Choices.{Chooses};
 use crate::words::{Kind, Word};
 
 /// The pacing layers over a line, the outer one first.
+// No list of numbers: with each layer more the line has another type, so each number of layers is a case.
 #[derive(Clone, Copy)]
 pub enum Layers {
     Bare,

@@ -12,21 +12,20 @@ mod words;
 use anyhow::anyhow;
 use choices::{Choice, choose};
 use passing::pass;
-use pumping::{Account, tally_of};
+use pumping::{Account, Tally, tally_of};
 use std::env;
 use std::io::Read;
-use words::word_of;
+use words::{Word, word_of};
 
 /// The choice that the arguments make.
 fn chosen(rt: &HostRuntime) -> anyhow::Result<Choice> {
-    let mut words = Vec::new(rt.alloc());
-    for argument in env::args(rt)?.skip(1) {
-        words.push(word_of(argument.as_str()))?;
-    }
-    match choose(words.as_slice()) {
-        Some(choice) => Ok(choice),
-        None => Err(anyhow!("usage: pump [paced NUMBER [paced NUMBER]] ring|straight PIECE")),
-    }
+    let words: Vec<Word> = env::args(rt)?
+        .skip(1)
+        .map(|argument| word_of(argument.as_str()))
+        .collect(rt.alloc())?;
+    choose(words.as_slice()).ok_or_else(|| anyhow!(
+        "usage: pump [paced NUMBER [paced NUMBER]] ring|straight PIECE"
+    ))
 }
 
 /// Prints the deeds, the counts, and whether what came out is what went in.
@@ -34,10 +33,11 @@ fn print_account(rt: &HostRuntime, input: &[u8], account: &Account) -> anyhow::R
     for deed in account.deeds.iter() {
         println!(rt; "{deed}")?;
     }
-    let counts = tally_of(account.deeds.as_slice());
-    let puts = counts.puts;
-    let refusals = counts.refusals;
-    let takes = counts.takes;
+    let Tally {
+        puts,
+        refusals,
+        takes,
+    } = tally_of(account.deeds.as_slice());
     println!(rt; "{puts} puts, {refusals} refused, {takes} takes")?;
     let sent = input.len();
     let came = account.out.len();

@@ -1,8 +1,7 @@
 //! The chosen line, and the input through it.
-ghost use Rattle.std.specs.Prelude.{◌≡◌, IfOk, IfErr, vec_len, MatchResult};
-ghost use Rattle.any_line.specs.contracts.any.AnyLineLine.TheImpl.{ghosts as any_line_impl};
+ghost use Rattle.std.specs.Prelude.{◌≡◌, IfOk, IfErr, MatchResult};
 ghost use Rattle.fault.specs.declared.refusals.Refusal.TheVariants as R;
-ghost use Rattle.line.specs.Sizes.{smallest_size};
+ghost use Rattle.line.specs.Lines.{LineView};
 ghost use Rattle.pumping.specs.Pumping.{Pumped};
 ghost use Rattle.pump.specs.Passing.{made_view, PaceAllowed, Allowed, Passes};
 
@@ -17,37 +16,12 @@ use ring::Ring;
 use std::alloc::Global;
 use straight::Straight;
 
-/// The memory of a line.
-fn memory(heap: Global) -> Result<Vec<u8>, Refusal>
-    ensures { MatchResult result (λ v. vec_len v ≡ smallest_size) (λ e. e ≡ R.OutOfMemory) }
-{
-    match vec![in heap; 0u8; SMALLEST_SIZE] {
-        Ok(bytes) => Ok(bytes),
-        Err(_) => Err(Refusal::OutOfMemory),
-    }
-}
-
-/// A run whose want of memory is a refusal.
-fn through<L: Line>(
-    heap: Global,
-    line: &mut L,
-    input: &[u8],
-    piece: PieceSize,
-) -> Result<Account, Refusal>
-    ensures { MatchResult result (λ account. Pumped (L.Line.view line.old) input.now piece.bytes account (L.Line.view line.new)) (λ e. e ≡ R.OutOfMemory) }
-{
-    match run(heap, line, input, piece) {
-        Ok(account) => Ok(account),
-        Err(_) => Err(Refusal::OutOfMemory),
-    }
-}
-
 /// An empty line of the kind, with a pacing layer over it or none.
 fn make_line(heap: Global, kind: Kind, pace: Option<usize>) -> Result<AnyLine, Refusal>
-    ensures made { IfOk result (λ l. PaceAllowed pace × (any_line_impl.view l ≡ made_view kind pace)) }
+    ensures made { IfOk result (λ l. PaceAllowed pace × (⟦<AnyLine as Line>⟧.view l ≡ made_view kind pace)) }
     ensures refused { IfErr result (λ e. (e ≡ R.SizeOutOfRange → PaceAllowed pace → ⊥)) }
 {
-    let bytes = memory(heap)?;
+    let bytes = vec![in heap; 0u8; SMALLEST_SIZE]?;
     match (kind, pace) {
         (Kind::Ring, None) => Ok(AnyLine::Ring(Ring::new(bytes)?)),
         (Kind::Ring, Some(pace)) => Ok(AnyLine::PacedRing(Paced::new(Ring::new(bytes)?, pace)?)),
@@ -59,6 +33,18 @@ fn make_line(heap: Global, kind: Kind, pace: Option<usize>) -> Result<AnyLine, R
     }
 }
 
+/// What a run with this line did. Want of memory is a refusal.
+fn through<L: Line + Drop>(
+    heap: Global,
+    mut line: L,
+    input: &[u8],
+    piece: PieceSize,
+) -> Result<Account, Refusal>
+    ensures { MatchResult result (λ account. (w : LineView) × Pumped (L.Line.view line) input.now piece.bytes account w) (λ e. e ≡ R.OutOfMemory) }
+{
+    Ok(run(heap, &mut line, input, piece)?)
+}
+
 /// Passes the input through the chosen line, and gives the account of it.
 pub fn pass(heap: Global, choice: Choice, input: &[u8]) -> Result<Account, Refusal>
     ensures made { IfOk result (λ account. Passes choice input.now account) }
@@ -66,17 +52,16 @@ pub fn pass(heap: Global, choice: Choice, input: &[u8]) -> Result<Account, Refus
 {
     let piece = PieceSize::new(choice.piece)?;
     match choice.layers {
-        Layers::Bare => {
-            let mut line = make_line(heap, choice.kind, None)?;
-            through(heap, &mut line, input, piece)
-        }
-        Layers::Once(pace) => {
-            let mut line = make_line(heap, choice.kind, Some(pace))?;
-            through(heap, &mut line, input, piece)
-        }
+        Layers::Bare => through(heap, make_line(heap, choice.kind, None)?, input, piece),
+        Layers::Once(pace) => through(
+            heap,
+            make_line(heap, choice.kind, Some(pace))?,
+            input,
+            piece,
+        ),
         Layers::Twice(outer, inner) => {
-            let mut line = Paced::new(make_line(heap, choice.kind, Some(inner))?, outer)?;
-            through(heap, &mut line, input, piece)
+            let line = make_line(heap, choice.kind, Some(inner))?;
+            through(heap, Paced::new(line, outer)?, input, piece)
         }
     }
 }

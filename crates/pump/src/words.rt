@@ -23,9 +23,6 @@ pub fn word_of(text: &str) -> Word
         "paced" => Word::Paced,
         "ring" => Word::Kind(Kind::Ring),
         "straight" => Word::Kind(Kind::Straight),
-        _ => match text.parse::<usize>() {
-            Ok(number) => Word::Number(number),
-            Err(_) => Word::Other,
-        },
+        _ => text.parse().map_or(Word::Other, Word::Number),
     }
 }

@@ -1,17 +1,39 @@
--- One deed more in a tally.
-use Rattle.std.proofs.Common.{◌≡◌, ℕ, ◌+◌, ◌<◌, List, length, get_or, drop, sym, ap, ◌∙◌}
-use Rattle.std.proofs.lemmas.List.{at_drop_more}
+-- A tally is three counts over the deeds.
+use Rattle.std.proofs.Common.{◌≡◌, ℕ, ◌+◌, cond, List, [], ◌∷◌, sym, ap, ◌∙◌, arith}
+use Rattle.std.proofs.lemmas.List.Sums.{sum_by-cons}
+use Rattle.std.specs.List.{count_by}
+use Rattle.pumping.specs.contracts.accounts.ActPartialEq.TheImpl.{ghosts as acts}
 use Rattle.pumping.specs.declared.accounts.Act.{Act}
 use Rattle.pumping.specs.declared.accounts.Act.TheVariants as A
 use Rattle.pumping.specs.declared.accounts.Deed.{Deed}
 use Rattle.pumping.specs.declared.tallies.Tally.{Tally}
 use Rattle.pumping.specs.Tallies.{counted, tallied_from}
 
-abbrev pub deed_at : List Deed → ℕ → Deed
-deed_at deeds i = get_or deeds i (record { act = A.Put; bytes = 0; waiting = 0; room = 0 })
+abbrev tally : ℕ → ℕ → ℕ → Tally
+tally p r k = record { puts = p; refusals = r; takes = k }
 
-pub tallied_more : (t u : Tally) (act : Act) (deeds : List Deed) (i : ℕ) → i < length deeds → (deed_at deeds i).act ≡ act → u ≡ counted t act →
-    tallied_from u (drop (i + 1) deeds) ≡ tallied_from t (drop i deeds)
-tallied_more t u act deeds i h e f =
-    ap (λ q. tallied_from q (drop (i + 1) deeds)) (f ∙ ap (counted t) (sym e))
-    ∙ sym (at_drop_more (tallied_from t) deeds i (record { act = A.Put; bytes = 0; waiting = 0; room = 0 }) h)
+pub same_tally : {p q r s k l : ℕ} → p ≡ q → r ≡ s → k ≡ l → tally p r k ≡ tally q s l
+same_tally {p} {q} {r} {s} {k} {l} a b c =
+    ap (λ i. tally i r k) a ∙ ap (λ i. tally q i k) b ∙ ap (λ i. tally q s i) c
+
+abbrev pub count_of : Act → List Deed → ℕ
+count_of act deeds = count_by (λ (d : Deed). acts.eq d.act act) deeds
+
+-- one more of them at the front
+count_more : (act : Act) (n : ℕ) (d : Deed) (ds : List Deed) → n + (cond (acts.eq d.act act) 1 0 + count_of act ds) ≡ n + count_of act (d ∷ ds)
+count_more act n d ds = ap (λ q. n + q) (sym (sum_by-cons (λ (e : Deed). cond (acts.eq e.act act) 1 0) d ds))
+
+one_more : (t : Tally) (act : Act) (p r k : ℕ) →
+    tally ((counted t act).puts + p) ((counted t act).refusals + r) ((counted t act).takes + k)
+    ≡ tally (t.puts + (cond (acts.eq act A.Put) 1 0 + p)) (t.refusals + (cond (acts.eq act A.Refused) 1 0 + r)) (t.takes + (cond (acts.eq act A.Take) 1 0 + k))
+one_more t A.Put p r k = same_tally (omega arith) (omega arith) (omega arith)
+one_more t A.Refused p r k = same_tally (omega arith) (omega arith) (omega arith)
+one_more t A.Take p r k = same_tally (omega arith) (omega arith) (omega arith)
+
+pub tallied_is : (t : Tally) (deeds : List Deed) →
+    tallied_from t deeds ≡ tally (t.puts + count_of A.Put deeds) (t.refusals + count_of A.Refused deeds) (t.takes + count_of A.Take deeds)
+tallied_is t [] = same_tally (omega arith) (omega arith) (omega arith)
+tallied_is t (d ∷ ds) =
+    tallied_is (counted t d.act) ds
+    ∙ one_more t d.act (count_of A.Put ds) (count_of A.Refused ds) (count_of A.Take ds)
+    ∙ same_tally (count_more A.Put t.puts d ds) (count_more A.Refused t.refusals d ds) (count_more A.Take t.takes d ds)

@@ -1,16 +1,17 @@
 -- Laws of runs.
-use Rattle.std.proofs.Common.{◌≡◌, ℕ, ◌-◌, ◌<◌, ◌≤◌, min, Bool, true, false, cond, ◌⊎◌, List, [], ◌++◌, length, take, drop, Ok, Err, vec_items, Result, sym, refl, ap, ◌∙◌, subst, inl, inr, append_assoc, append-nil, arith, length-drop, length-take, leb-false}
-use borrow.Author.Tests.{clash}
-use Rattle.std.proofs.lemmas.List.{nil_from_length, take_all}
+use Rattle.std.proofs.Common.{◌≡◌, ℕ, ◌<◌, ◌≤◌, min, Bool, true, false, cond, ◌⊎◌, List, [], ◌++◌, length, take, drop, Ok, Err, vec_items, Result, sym, refl, ap, ◌∙◌, subst, inl, inr, append_assoc, append-nil, arith, leb-false}
+use Rattle.std.proofs.lemmas.List.{nil_from_length, take_at, take_min, drop_at}
 use Rattle.std.proofs.lemmas.Bool.{cases_lt}
+use Rattle.std.specs.Result.{is_ok}
 use Rattle.fault.specs.declared.refusals.Refusal.{Refusal}
 use Rattle.fault.specs.declared.refusals.Refusal.TheVariants.{LineFull}
 use Rattle.layout.specs.Limits.{packet_limit}
 use Rattle.line.specs.Lines.{LineView, Sound, Put, Taken, fits, joined, cleared}
-use Rattle.line.proofs.Takes.{rest_length, taken_whole}
+use Rattle.line.proofs.Takes.{taken_whole}
 use Rattle.pumping.specs.declared.accounts.Account.{Account}
+use Rattle.pumping.specs.declared.accounts.Act.{Act}
 use Rattle.pumping.specs.declared.accounts.Act.TheVariants as A
-use Rattle.pumping.specs.Pumping.{Pump, pump, noted, next_piece, Noted, Step, put, refused, took, Steps, none, more, Offered, Drew, Pumped}
+use Rattle.pumping.specs.Pumping.{Pump, pump, noted, next_piece, Noted, Step, put, refused, took, Steps, none, more, Offered, Pumped}
 
 pub steps_then : {input : List ℕ} {size : ℕ} {s t u : Pump} → Steps input size s t → Steps input size t u → Steps input size s u
 steps_then a none = a
@@ -22,14 +23,14 @@ answered b = cond b (Ok tt) (Err LineFull)
 -- what a granted put and a refused put tell
 granted_by : (b : Bool) (v : LineView) {w : LineView} (p : List ℕ) → Ok tt ≡ answered b → w ≡ cond b (joined v p) v → w ≡ joined v p
 granted_by true v p e h = h
-granted_by false v p e h = let z : ◌≡◌ {A = ℕ} 0 1 = cc in absurd (omega arith)
+granted_by false v p e h = cc
 
 pub granted : {v w : LineView} {p : List ℕ} → Put v p (Ok tt) w → w ≡ joined v p
 granted {v} {w} {p} h = granted_by (fits v p) v p h.answer h.after
 
 refused_by : (b : Bool) {e : Refusal} (v : LineView) {w : LineView} (p : List ℕ) → Err e ≡ answered b → w ≡ cond b (joined v p) v →
     (b ≡ false) × (e ≡ LineFull) × (w ≡ v)
-refused_by true v p f h = let z : ◌≡◌ {A = ℕ} 0 1 = cc in absurd (omega arith)
+refused_by true v p f h = cc
 refused_by false v p f h = (refl, cc, h)
 
 pub lacking : {v w : LineView} {p : List ℕ} {e : Refusal} → Put v p (Err e) w → (v.room < length p) × (e ≡ LineFull) × (w ≡ v)
@@ -87,31 +88,39 @@ module _ (input : List ℕ) (size : ℕ) (fed : List ℕ) where
       subst (λ u. Step input size (pump v fed a) (pump u fed b)) (sym l.2)
       (subst (λ u. Step input size (pump v fed a) u) (same_pump v fed (sym m.out) (sym m.deeds)) (refused piece i q))
 
-pub did_take : {v w : LineView} {a m b : Account} {buffer filled : List ℕ} {k : ℕ} →
-    Taken v buffer k w filled → vec_items m.deeds ≡ vec_items a.deeds →
-    vec_items m.out ≡ vec_items a.out ++ take k v.waiting → Noted m A.Take k w b → Drew v a (length buffer) w b
-did_take {v} {w} {a} {m} {b} {buffer} {filled} {k} t d o n =
-    record {
-      step = λ input fed.
-          subst (λ q. Step input (length buffer) (pump v fed a) q)
-          (same_pump w fed (sym (n.out ∙ o)) (sym (n.deeds ∙ ap (λ q. noted q A.Take k w) d)))
-          (took buffer k w filled refl t);
-      fewer = omega (arith, rest_length t, t.count);
-    }
+  pub did_take : {v w : LineView} (a m : Account) {b : Account} {buffer filled : List ℕ} {k : ℕ} → length buffer ≡ size →
+      Taken v buffer k w filled → vec_items m.deeds ≡ vec_items a.deeds →
+      vec_items m.out ≡ vec_items a.out ++ take k v.waiting → Noted m A.Take k w b → Step input size (pump v fed a) (pump w fed b)
+  did_take {v} {w} a m {b} {buffer} {filled} {k} l t d o n =
+      subst (λ q. Step input size (pump v fed a) q)
+      (same_pump w fed (sym (n.out ∙ o)) (sym (n.deeds ∙ ap (λ q. noted q A.Take k w) d)))
+      (took buffer k w filled l t)
+
+-- an offer, by what the line answered
+pub offered : {v w : LineView} {a b : Account} (piece : List ℕ) (r : Result (Unit {0}) Refusal) (granted : Bool) (act : Act) → granted ≡ is_ok r →
+    act ≡ cond granted A.Put A.Refused → Put v piece r w → Noted a act (length piece) w b → Offered v a piece granted w b
+offered {v} {w} {a} {b} piece (Ok _) true act e f p n = λ input size fed i.
+    did_put input size fed i p (subst (λ q. Noted a q (length piece) w b) f n)
+offered piece (Ok _) false act e f p n = cc
+offered piece (Err _) true act e f p n = cc
+offered {v} {w} {a} {b} piece (Err _) false act e f p n = (
+  λ input size fed i. did_refuse input size fed i p (subst (λ q. Noted a q (length piece) w b) f n),
+  (lacking p).0,
+)
 
 -- an offer that was granted, that could not be refused, and that was refused
 module _ (v : LineView) (a : Account) (piece : List ℕ) (w : LineView) (b : Account) where
   module _ (input : List ℕ) (size : ℕ) (fed : List ℕ) (i : piece ≡ next_piece input size fed) where
     pub went_in : (r : Bool) → r ≡ true → Offered v a piece r w b → Step input size (pump v fed a) (pump w (fed ++ piece) b)
     went_in true e h = h input size fed i
-    went_in false e h = absurd (clash e)
+    went_in false e h = cc
 
     pub fitted : (r : Bool) → length piece ≤ v.room → Offered v a piece r w b → Step input size (pump v fed a) (pump w (fed ++ piece) b)
     fitted true l h = h input size fed i
     fitted false l h = absurd (omega (arith, h.1))
 
     pub stayed_out : (r : Bool) → r ≡ false → Offered v a piece r w b → Step input size (pump v fed a) (pump w fed b)
-    stayed_out true e h = absurd (clash (sym e))
+    stayed_out true e h = cc
     stayed_out false e h = h.0 input size fed i
 
 abbrev start : LineView → Pump
@@ -122,19 +131,15 @@ pub begun : (input : List ℕ) (size : ℕ) (v : LineView) (a : Account) → vec
     Steps input size (record { line = v; fed = []; out = []; deeds = [] }) (pump v [] a)
 begun input size v a d o = subst (λ q. Steps input size (start v) q) (same_pump v [] (sym o) (sym d)) none
 
--- the next piece, as it is cut
-pub next_cut : (input : List ℕ) (size sent n : ℕ) → sent ≤ length input → n ≡ min size (length input - sent) →
-    take n (drop sent input) ≡ next_piece input size (take sent input)
-next_cut input size sent n h e =
-    let l : length (take sent input) ≡ sent = simp length-take (omega arith) in
-    by_case (cases_lt size (length input - sent)) ∙ ap (λ i. take size (drop i input)) (sym l)
-  where
-    by_case : (size < length input - sent) ⊎ (length input - sent ≤ size) → take n (drop sent input) ≡ take size (drop sent input)
-    by_case (inl i) = let m : n ≡ size = omega arith in ap (λ j. take j (drop sent input)) m
-    by_case (inr i) =
-        let a : length (drop sent input) ≤ n = simp length-drop (omega arith) in
-        let b : length (drop sent input) ≤ size = simp length-drop (omega arith) in
-        take_all n (drop sent input) a ∙ sym (take_all size (drop sent input) b)
+-- the next piece, as it is cut off what is left
+pub next_cut : (input fed rest piece after : List ℕ) (size : ℕ) → fed ++ rest ≡ input → rest ≡ piece ++ after →
+    length piece ≡ min size (length rest) → piece ≡ next_piece input size fed
+next_cut input fed rest piece after size e p l =
+    sym (take_at piece after (length piece) refl)
+    ∙ ap (take (length piece)) (sym p)
+    ∙ ap (λ n. take n rest) l
+    ∙ take_min size rest
+    ∙ ap (take size) (sym (drop_at fed rest (length fed) refl) ∙ ap (drop (length fed)) e)
 
 -- after the last one
 pub ended : {v c w : LineView} {a : Account} {input : List ℕ} (size : ℕ) → c ≡ cleared v →

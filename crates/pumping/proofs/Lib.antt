@@ -1,2 +1,3 @@
 pub mod Laws
 pub mod Counts
+pub mod Draws

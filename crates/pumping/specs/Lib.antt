@@ -1,3 +1,4 @@
 pub mod Pieces
 pub mod Tallies
 pub mod Pumping
+pub mod Pumpers

@@ -1,7 +1,7 @@
 -- What a run is: steps of a line, each with its deed in the account.
-use Rattle.std.specs.Prelude.{◌≡◌, ℕ, ◌+◌, ◌<◌, Bool, true, false, List, [], ◌∷◌, ◌++◌, length, take, drop, Ok, Err, vec_items}
+use Rattle.std.specs.Prelude.{◌≡◌, ℕ, ◌<◌, Bool, true, false, List, [], ◌∷◌, ◌++◌, length, take, drop, Ok, Err, vec_items}
 use Rattle.fault.specs.declared.refusals.Refusal.TheVariants.{LineFull}
-use Rattle.line.specs.Lines.{LineView, Put, Taken, cleared, handed}
+use Rattle.line.specs.Lines.{LineView, Put, Taken, cleared}
 use Rattle.pumping.specs.declared.accounts.Account.{Account}
 use Rattle.pumping.specs.declared.accounts.Act.{Act}
 use Rattle.pumping.specs.declared.accounts.Act.TheVariants as A
@@ -52,20 +52,6 @@ Offered v a piece true w b =
 Offered v a piece false w b =
     ((input : List ℕ) (size : ℕ) (fed : List ℕ) → piece ≡ next_piece input size fed → Step input size (pump v fed a) (pump w fed b))
     × (v.room < length piece)
-
--- One take into a buffer of some size.
-pub record Drew (v : LineView) (a : Account) (size : ℕ) (w : LineView) (b : Account) : Type 0 where
-  pub step : (input fed : List ℕ) → Step input size (pump v fed a) (pump w fed b)
-  pub fewer : length w.waiting + handed v size ≡ length v.waiting
-
--- Any number of them.
-abbrev pub Drawn : LineView → Account → ℕ → LineView → Account → Type 0
-Drawn v a size w b = (input fed : List ℕ) → Steps input size (pump v fed a) (pump w fed b)
-
--- A piece went in, in the end.
-abbrev pub Sent : LineView → Account → ℕ → List ℕ → LineView → Account → Type 0
-Sent v a size piece w b =
-    (input fed : List ℕ) → piece ≡ next_piece input size fed → Steps input size (pump v fed a) (pump w (fed ++ piece) b)
 
 -- A whole run with a line v that is w then: the account's deeds are what happened from the cleared line on, what
 -- came out is the input, and nothing waits.

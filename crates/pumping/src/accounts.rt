@@ -1,11 +1,14 @@
 //! What a run did.
-ghost use Rattle.std.specs.Prelude.{◌≡◌, [], ◌∷◌, ◌++◌, OnOk};
+ghost use Rattle.std.specs.Prelude.{◌≡◌, [], ◌++◌, OnOk, IfOk};
+ghost use Rattle.pumping.specs.Pumping.{Noted, Offered};
 
 use fault::Refusal;
+use line::Line;
 use std::alloc::{AllocError, Global};
 use std::fmt;
 
-#[derive(Clone, Copy)]
+/// What was done with a line.
+#[derive(Clone, Copy, PartialEq, Eq, Debug)]
 pub enum Act {
     /// A piece was put.
     Put,
@@ -16,7 +19,7 @@ pub enum Act {
 }
 
 /// One put or take: with how many bytes, and then how many bytes wait and how many have room.
-#[derive(Clone, Copy)]
+#[derive(Clone, Copy, PartialEq, Eq, Debug)]
 pub struct Deed {
     pub act: Act,
     pub bytes: usize,
@@ -33,17 +36,15 @@ impl fmt::Display for Deed {
             room,
         } = *self;
         match act {
-            Act::Put => write!(f, "put {bytes}: waiting {waiting}, room {room}"),
-            Act::Take => write!(f, "take {bytes}: waiting {waiting}, room {room}"),
+            Act::Put => write!(f, "put {bytes}")?,
+            Act::Take => write!(f, "take {bytes}")?,
             Act::Refused => {
-                let number = Refusal::LineFull.number();
                 let reason = Refusal::LineFull;
-                write!(
-                    f,
-                    "put {bytes} refused, {number} {reason}: waiting {waiting}, room {room}"
-                )
+                let number = reason.number();
+                write!(f, "put {bytes} refused, {number} {reason}")?;
             }
         }
+        write!(f, ": waiting {waiting}, room {room}")
     }
 }
 
@@ -65,13 +66,34 @@ impl Account {
         }
     }
 
-    /// Adds a deed.
-    pub(crate) fn note(&mut self, deed: Deed) -> Result<(), AllocError>
-        ensures deeds { OnOk result (self.new.deeds.items ≡ self.old.deeds.items ++ deed ∷ []) }
-        ensures out { self.new.out.items ≡ self.old.out.items }
+    /// Adds a deed, with what waits in the line and its room now.
+    pub(crate) fn note<L: Line>(
+        &mut self,
+        act: Act,
+        bytes: usize,
+        line: &L,
+    ) -> Result<(), AllocError>
+        ensures { OnOk result (Noted self.old act bytes (L.Line.view line.now) self.new) }
     {
-        self.deeds.push(deed)?;
+        let waiting = line.waiting();
+        let room = line.room();
+        self.deeds.push(Deed {
+            act,
+            bytes,
+            waiting,
+            room,
+        })?;
         Ok(())
+    }
+
+    /// Offers a piece to the line, and says whether it was granted.
+    pub(crate) fn offer<L: Line>(&mut self, line: &mut L, piece: &[u8]) -> Result<bool, AllocError>
+        ensures { IfOk result (λ granted. Offered (L.Line.view line.old) self.old piece.now granted (L.Line.view line.new) self.new) }
+    {
+        let granted = line.put(piece).is_ok();
+        let act = if granted { Act::Put } else { Act::Refused };
+        self.note(act, piece.len(), line)?;
+        Ok(granted)
     }
 
     /// Adds bytes that came out.

@@ -8,6 +8,7 @@
 
 pub mod accounts;
 pub mod pieces;
+mod pumpers;
 pub mod runs;
 pub mod tallies;
 

@@ -18,7 +18,7 @@ impl PieceSize {
     pub fn new(bytes: usize) -> Result<PieceSize, Refusal>
         ensures { MatchResult result (λ p. p.bytes ≡ bytes) (λ e. (e ≡ SizeOutOfRange) × (PieceLength bytes → ⊥)) }
     {
-        if bytes == 0 || bytes > PACKET_LIMIT {
+        if !(1..=PACKET_LIMIT).contains(&bytes) {
             return Err(Refusal::SizeOutOfRange);
         }
         Ok(PieceSize { bytes })

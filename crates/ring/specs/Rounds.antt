@@ -1,11 +1,11 @@
 -- Reading and writing round the end of a list of places.
 use Rattle.std.specs.Prelude.{◌≡◌, ℕ, ◌+◌, ◌-◌, ◌<◌, ◌≤◌, ◌⊎◌, List, ◌++◌, length, take, drop, refl}
-use Rattle.std.proofs.Common.{sym, ap, ◌∙◌, append_assoc, append-nil, inl, inr, arith, length-drop, length-take, length-append, take-add}
-use borrow.Rule.Slice.PartMut.{put_mid}
+use Rattle.std.proofs.Common.{sym, ap, ◌∙◌, append_assoc, inl, inr, arith, length-drop, length-take, length-append, take-add}
 use Rattle.std.proofs.Math.Seq.{take-append-add}
 use Rattle.std.proofs.lemmas.Bool.{cases_lt}
-use Rattle.std.proofs.lemmas.List.{drop-append-le, take-append-le, take-append-drop, take_at, drop_at, drop-drop, take_all, drop_all, drop-take}
+use Rattle.std.proofs.lemmas.List.{drop-append-le, take-append-le, take-append-drop, take_at, drop_at, drop-drop, take_all, drop-take}
 use Rattle.std.proofs.lemmas.Slice.{take-put_mid, drop-put_mid}
+use Rattle.memory.proofs.Laid.{length_laid}
 use Rattle.memory.specs.Memory.{laid}
 use Rattle.ring.specs.Rings.{Onward, LaidRound, ringed}
 
@@ -49,19 +49,6 @@ ringed_split xs start count k to l c s g = whole ∙ ap (λ q. ringed xs start k
         ∙ ap (take (count - k)) (sym (drop-drop to (length xs) (xs ++ xs)) ∙ ap (drop to) (drop_at xs xs (length xs) refl))
         ∙ sym (near xs to (count - k) (omega arith) (omega arith))
 
-pub laid_length : (xs : List ℕ) (at : ℕ) (piece : List ℕ) → at + length piece ≤ length xs → length (laid xs at piece) ≡ length xs
-laid_length xs at piece l = simp (length-append, length-take, length-drop) (omega arith)
-
--- Two parts of a slice that were written one after the other, up to its end.
-pub two_parts : (front back rest : List ℕ) (a : ℕ) → length front ≡ a →
-    put_mid a (length (front ++ rest) - a) (front ++ rest) back ≡ front ++ back
-two_parts front back rest a l =
-    let n = length (front ++ rest) - a in
-    let d : length (drop a (front ++ rest)) ≤ n = simp length-drop (omega arith) in
-    ap (λ q. q ++ (back ++ drop n (drop a (front ++ rest)))) (take_at front rest a l)
-    ∙ ap (λ q. front ++ (back ++ q)) (drop_all n (drop a (front ++ rest)) d)
-    ∙ ap (λ q. front ++ q) (append-nil back)
-
 -- What was laid behind what waits, waits behind it.
 module _ (xs : List ℕ) (start count at : ℕ) (piece ys : List ℕ) (s : start < length xs) (c : count + length piece ≤ length xs) where
   -- a part that begins before the piece is the part before it, and the piece
@@ -81,7 +68,7 @@ module _ (xs : List ℕ) (start count at : ℕ) (piece ys : List ℕ) (s : start
   lay_near : at ≡ start + count → at + length piece ≤ length xs → ys ≡ laid xs at piece →
       ringed ys start (count + length piece) ≡ ringed xs start count ++ piece
   lay_near a l e =
-      let ly : length ys ≡ length xs = ap length e ∙ laid_length xs at piece l in
+      let ly : length ys ≡ length xs = ap length e ∙ length_laid xs at piece l in
       near ys start (count + length piece) (omega arith) (omega arith)
       ∙ up_to piece ys (count + length piece) a l e refl
       ∙ ap (λ z. z ++ piece) (sym (near xs start count (omega arith) (omega arith)))
@@ -91,7 +78,7 @@ module _ (xs : List ℕ) (start count at : ℕ) (piece ys : List ℕ) (s : start
       ringed ys start (count + length piece) ≡ ringed xs start count ++ piece
   lay_past a e =
       let n = length piece in
-      let ly : length ys ≡ length xs = ap length e ∙ laid_length xs at piece (omega arith) in
+      let ly : length ys ≡ length xs = ap length e ∙ length_laid xs at piece (omega arith) in
       let d : drop start ys ≡ drop start xs = ap (drop start) e ∙ drop-put_mid at n xs piece start (omega arith) (omega arith) refl in
       let t : take (at + n) ys ≡ take at xs ++ piece = ap (take (at + n)) e ∙ take-put_mid at n xs piece (at + n) refl (omega arith) in
       far ys start (count + n) (omega arith) (at + n) (omega arith)
@@ -112,8 +99,8 @@ module _ (xs : List ℕ) (start count at : ℕ) (piece ys : List ℕ) (s : start
       let zs = laid xs at head in
       let lh : length head ≡ ahead = simp length-take (omega arith) in
       let lt : length tail ≡ n - ahead = length-drop ahead piece in
-      let lz : length zs ≡ length xs = laid_length xs at head (omega arith) in
-      let ly : length ys ≡ length xs = ap length e ∙ laid_length zs 0 tail (omega arith) ∙ lz in
+      let lz : length zs ≡ length xs = length_laid xs at head (omega arith) in
+      let ly : length ys ≡ length xs = ap length e ∙ length_laid zs 0 tail (omega arith) ∙ lz in
       let ld : length (drop start zs) ≤ count + length head = simp length-drop (omega arith) in
       let d : drop start ys ≡ take count (drop start xs) ++ head =
       ap (drop start) e ∙ drop-put_mid 0 (length tail) zs tail start (omega arith) (omega arith) refl

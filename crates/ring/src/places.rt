@@ -1,6 +1,7 @@
 //! Copies to and from the places of a ring, each in at most two parts.
-ghost use Rattle.std.specs.Prelude.{◌≡◌, ◌+◌, ◌<◌, ◌≤◌, length};
-ghost use Rattle.memory.specs.Memory.{laid};
+// What does not go round the end is one copy: a second one, of no byte, was tried, and halved the speed of pieces
+// of 64 bytes.
+ghost use Rattle.std.specs.Prelude.{◌≡◌, ◌<◌, ◌≤◌, length};
 ghost use Rattle.line.specs.Sizes.{largest_size};
 ghost use Rattle.ring.specs.Rings.{Onward, LaidRound, ringed};
 
@@ -13,15 +14,6 @@ pub(crate) fn onward(at: usize, by: usize, size: usize) -> usize
     if to < size { to } else { to - size }
 }
 
-/// Copies a piece to the places from `at` on.
-fn lay(places: &mut [u8], at: usize, piece: &[u8])
-    requires { at + length piece.now ≤ length places.old }
-    ensures { places.new ≡ laid places.old at piece.now }
-{
-    let end = at + piece.len();
-    places[at..end].copy_from_slice(piece);
-}
-
 /// Copies a piece to the places from `at` on, and past the last place from the first one on.
 pub(crate) fn lay_round(places: &mut [u8], at: usize, piece: &[u8])
     requires { (at < length places.old) × (length piece.now ≤ length places.old) }
@@ -29,10 +21,11 @@ pub(crate) fn lay_round(places: &mut [u8], at: usize, piece: &[u8])
 {
     let ahead = places.len() - at;
     if piece.len() <= ahead {
-        lay(places, at, piece);
+        places[at..at + piece.len()].copy_from_slice(piece);
     } else {
-        lay(places, at, &piece[0..ahead]);
-        lay(places, 0, &piece[ahead..]);
+        let (front, back) = piece.split_at(ahead);
+        places[at..].copy_from_slice(front);
+        places[..back.len()].copy_from_slice(back);
     }
 }
 
@@ -46,7 +39,8 @@ pub(crate) fn read_round(places: &[u8], at: usize, out: &mut [u8])
     if n <= ahead {
         out.copy_from_slice(&places[at..at + n]);
     } else {
-        out[0..ahead].copy_from_slice(&places[at..]);
-        out[ahead..].copy_from_slice(&places[0..n - ahead]);
+        let (front, back) = out.split_at_mut(ahead);
+        front.copy_from_slice(&places[at..]);
+        back.copy_from_slice(&places[..back.len()]);
     }
 }

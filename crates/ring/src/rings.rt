@@ -12,9 +12,10 @@ ghost use Rattle.ring.specs.Views.{ring_sound};
 use crate::places::{lay_round, onward, read_round};
 use fault::{Refusal, Unmade};
 use layout::PACKET_LIMIT;
-use line::{Line, SteadyLine, is_line_size};
+use line::{Line, SteadyLine, allow, is_line_size};
 
 /// A line whose memory is used round and round.
+// No `VecDeque`: the memory is given once, of a size that is chosen at run time, and no put may ask for more.
 #[derive(Drop)]
 pub struct Ring {
     bytes: Vec<u8>,
@@ -26,14 +27,9 @@ pub struct Ring {
 impl Ring {
     /// An empty line over the memory given, whose length is the full size. A size outside the rules is refused.
     pub fn new(bytes: Vec<u8>) -> Result<Ring, Unmade<Vec<u8>>>
-        ensures { Makes (LineSize (vec_len bytes)) (λ s. ring_view s.bytes.items (vec_len s.bytes) s.start s.count ≡ fresh (vec_len bytes) packet_limit) bytes result }
+        ensures { Makes (LineSize (vec_len bytes)) (λ s. ⟦<Ring as Line>⟧.view s ≡ fresh (vec_len bytes) packet_limit) bytes result }
     {
-        if !is_line_size(bytes.len()) {
-            return Err(Unmade {
-                refusal: Refusal::SizeOutOfRange,
-                given: bytes,
-            });
-        }
+        let bytes = allow(is_line_size(bytes.len()), bytes)?;
         Ok(Ring {
             bytes,
             start: 0,
@@ -67,7 +63,7 @@ impl Line for Ring {
 
     fn take(&mut self, buffer: &mut [u8]) -> usize {
         let taken = self.count.min(buffer.len()).min(PACKET_LIMIT);
-        read_round(self.bytes.as_slice(), self.start, &mut buffer[0..taken]);
+        read_round(self.bytes.as_slice(), self.start, &mut buffer[..taken]);
         self.start = onward(self.start, taken, self.bytes.len());
         self.count -= taken;
         taken

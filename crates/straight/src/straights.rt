@@ -1,16 +1,16 @@
 //! The straight line, and how it is a line.
-ghost use Rattle.std.specs.Prelude.{◌≡◌, ◌+◌, ◌≤◌, length, vec_len};
+ghost use Rattle.std.specs.Prelude.{◌≡◌, vec_len};
 ghost use Rattle.std.proofs.Common.{sym};
 ghost use Rattle.std.proofs.Math.Nat.{sub-le};
 ghost use Rattle.line.specs.Lines.{fresh};
 ghost use Rattle.line.specs.Making.{Makes};
-ghost use Rattle.memory.specs.Memory.{laid};
 ghost use Rattle.line.specs.Sizes.{LineSize};
 ghost use Rattle.straight.specs.Straights.{InOrder, straight_view};
 ghost use Rattle.straight.specs.Views.{straight_sound};
 
 use fault::{Refusal, Unmade};
-use line::{Line, SteadyLine, is_line_size};
+use line::{Line, SteadyLine, allow, is_line_size};
+use memory::lay;
 
 /// A line whose memory is used from the front, and anew once nothing waits.
 #[derive(Drop)]
@@ -24,29 +24,15 @@ pub struct Straight {
 impl Straight {
     /// An empty line over the memory given, whose length is the full size. A size outside the rules is refused.
     pub fn new(bytes: Vec<u8>) -> Result<Straight, Unmade<Vec<u8>>>
-        ensures { Makes (LineSize (vec_len bytes)) (λ s. straight_view s.bytes.items (vec_len s.bytes) s.start s.end ≡ fresh (vec_len bytes) 1) bytes result }
+        ensures { Makes (LineSize (vec_len bytes)) (λ s. ⟦<Straight as Line>⟧.view s ≡ fresh (vec_len bytes) 1) bytes result }
     {
-        if !is_line_size(bytes.len()) {
-            return Err(Unmade {
-                refusal: Refusal::SizeOutOfRange,
-                given: bytes,
-            });
-        }
+        let bytes = allow(is_line_size(bytes.len()), bytes)?;
         Ok(Straight {
             bytes,
             start: 0,
             end: 0,
         })
     }
-}
-
-/// Copies a piece to the places from `at` on.
-fn lay(places: &mut [u8], at: usize, piece: &[u8])
-    requires { at + length piece.now ≤ length places.old }
-    ensures { places.new ≡ laid places.old at piece.now }
-{
-    let end = at + piece.len();
-    places[at..end].copy_from_slice(piece);
 }
 
 impl Line for Straight {

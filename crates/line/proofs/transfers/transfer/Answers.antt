@@ -1,4 +1,4 @@
-use Rattle.std.proofs.Common.{◌≡◌, ℕ, ◌+◌, ◌-◌, ◌≤◌, min, List, ◌++◌, length, take, refl, ap, ◌∙◌, arith, length-append, length-take, true-eqb, false-eqb}
+use Rattle.std.proofs.Common.{◌≡◌, ℕ, ◌+◌, ◌≤◌, min, List, ◌++◌, length, take, refl, ap, ◌∙◌, arith, length-append, length-take, true-eqb, false-eqb}
 use borrow.Rule.Slice.PartMut.{post_of}
 use Rattle.std.proofs.lemmas.List.{nil_from_length}
 use Rattle.line.specs.Lines.{LineView, Taken}
@@ -21,9 +21,9 @@ overflow_sub-result g c =
 
 -- one more take leaves of the buffer what no take reaches
 scratched : {v d w e x : LineView} {f : List ℕ} {k m : ℕ} (b s : List ℕ) (n : ℕ) → Moved v d m w e → Scratch v b s →
-    Taken w (take (n - 0) s) k x f → Scratch v b (f ++ post_of 0 (n - 0) s)
+    Taken w (take n s) k x f → Scratch v b (f ++ post_of 0 n s)
 scratched {v} {d} {w} {e} {x} {f} {k} {m} b s n a h t =
-    let l = length-take (n - 0) s in
+    let l = length-take n s in
     let most : k ≤ min (length b) v.limit = omega (arith, h.0, t.count, a.limit) in
     (part_length s n t ∙ h.0, part_rest s n t (min (length b) v.limit) most ∙ h.1)
 
@@ -48,7 +48,7 @@ returns-then-taken-eq0 g c =
         c.if-taken-eq0.true,
         c.min-most.ensures,
         c.room.ensures,
-        length-take (c.min-most.result - 0) c.loop-from.buffer,
+        length-take c.min-most.result c.loop-from.buffer,
         (g.met.F.Line.sound c.loop-from.from).some,
       ),
       scratched c.args.buffer.now c.loop-from.buffer c.min-most.result c.loop-from.invariant.0 c.loop-from.invariant.1 c.take-taken.ensures,
@@ -62,7 +62,7 @@ pub loop-from-preserved : goal.loop-from-preserved
 loop-from-preserved g c = (
   moved_more _ c.loop-from.invariant.0 c.take-taken.ensures c.put.ensures
       (let p = part_piece c.loop-from.buffer c.min-most.result c.take-taken.ensures in cc)
-      (omega (arith, c.take-taken.ensures.count, c.min-most.ensures, c.room.ensures, length-take (c.min-most.result - 0) c.loop-from.buffer))
+      (omega (arith, c.take-taken.ensures.count, c.min-most.ensures, c.room.ensures, length-take c.min-most.result c.loop-from.buffer))
       (omega (arith, lengths c.loop-from.invariant.0, rest_length c.take-taken.ensures, c.take-taken.ensures.count)),
   scratched c.args.buffer.now c.loop-from.buffer c.min-most.result c.loop-from.invariant.0 c.loop-from.invariant.1 c.take-taken.ensures,
 )

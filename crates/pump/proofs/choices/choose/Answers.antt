@@ -29,17 +29,6 @@ six ws a b c d e f n p q r s t u =
     (four (drop 2 ws) c d e f (simp length-drop (omega arith)) (get_or-drop 2 ws 0 W.Paced ∙ r) (get_or-drop 2 ws 1 W.Paced ∙ s)
     (get_or-drop 2 ws 2 W.Paced ∙ t) (get_or-drop 2 ws 3 W.Paced ∙ u))
 
-pub returns-in-Kind : goal.returns-in-Kind
-returns-in-Kind c =
-    let n : length c.args.words.now ≡ 2 = search rules in
-    two c.args.words.now (W.Kind c.in-Kind.kind) (W.Number c.in-Kind.piece) n (search rules) (search rules)
-
-pub returns-in-Paced : goal.returns-in-Paced
-returns-in-Paced c =
-    let n : length c.args.words.now ≡ 4 = search rules in
-    four c.args.words.now W.Paced (W.Number c.in-Paced.pace) (W.Kind c.in-Paced.kind) (W.Number c.in-Paced.piece) n
-    (search rules) (search rules) (search rules) (search rules)
-
 pub returns-in-Paced-2 : goal.returns-in-Paced-2
 returns-in-Paced-2 c =
     let n : length c.args.words.now ≡ 6 = search rules in

@@ -1,63 +1,68 @@
-use Rattle.std.proofs.Common.{◌≡◌, ◌+◌, ◌-◌, min, [], ◌++◌, length, take, drop, sym, ap, ◌∙◌, subst, arith, length-drop, length-take, take-add, rules}
-use Rattle.std.proofs.lemmas.List.{take_all}
-use Rattle.line.specs.Lines.{LineView}
-use Rattle.pumping.specs.Pumping.{Pump, Steps, pump, next_piece}
+use Rattle.std.proofs.Common.{◌≡◌, min, [], ◌++◌, length, sym, ap, ◌∙◌, subst, append_assoc, append-nil, arith}
+use Rattle.std.proofs.lemmas.List.{nil_from_length}
+use Rattle.std.specs.Slice.Iter.{chunks_rest, chunks_size}
+use Rattle.pumping.specs.Pumping.{Steps, pump, next_piece}
 use Rattle.pumping.proofs.Laws.{steps_then, begun, next_cut, ended}
 use Rattle.pumping.proofs.runs.run.Goals as goal
 
-abbrev begins : LineView → Pump
-begins v = record { line = v; fed = []; out = []; deeds = [] }
-
-pub loop-sent-init : goal.loop-sent-init
-loop-sent-init g c = (
-  begun c.args.input.now c.args.piece.bytes (g.L.Line.view c.clear.new.self) c.new-account.result c.new-account.ensures.0 c.new-account.ensures.1,
-  omega arith,
-  search rules,
-)
-
-pub send-requires : goal.send-requires
-send-requires g c =
+pub loop-next-init : goal.loop-next-init
+loop-next-init g c =
+    let made = c.in_ok-pumper.ensures in
+    let e = c.into_iter-next-iterator.ensures.into_iter_gives in
+    let size : chunks_size c.into_iter-next-iterator.result ≡ c.args.piece.bytes =
+    ap chunks_size e ∙ c.chunks-next-items.ensures.size ∙ c.bytes.ensures in
     record {
-      some = omega (arith, c.as_mut_slice.ensures.len, c.loop-sent.invariant.2, c.args.piece.ok.0);
-      most = simp (length-take, length-drop) (omega (arith, c.min-n.ensures, c.bytes-in-loop-sent.ensures, c.args.piece.ok.1));
+      can = omega (arith, size, c.args.piece.ok.0);
+      ends = tt;
+      size = size;
+      long = made.0;
+      fed = [];
+      whole = ap chunks_rest e ∙ c.chunks-next-items.ensures.rest;
+      steps = begun c.args.input.now c.args.piece.bytes (g.L.Line.view c.clear.new.self) c.in_ok-pumper.pumper.account made.1 made.2;
     }
 
-pub loop-sent-preserved : goal.loop-sent-preserved
-loop-sent-preserved g c =
+pub loop-next-preserved : goal.loop-next-preserved
+loop-next-preserved g c =
     let input = c.args.input.now in
     let size = c.args.piece.bytes in
-    let sent = c.loop-sent.sent in
-    let n = c.min-n.result in
-    let z : (sent + n) - sent ≡ n = omega arith in
-    let piece = take ((sent + n) - sent) (drop sent input) in
-    let e : take sent input ++ piece ≡ take (sent + n) input =
-    ap (λ i. take sent input ++ take i (drop sent input)) z ∙ sym (take-add sent n input) in
-    let min_is : n ≡ min size (length input - sent) = omega (arith, c.min-n.ensures, c.bytes-in-loop-sent.ensures) in
-    let cut : piece ≡ next_piece input size (take sent input) =
-    ap (λ i. take i (drop sent input)) z ∙ next_cut input size sent n c.loop-sent.invariant.1 min_is in
-    let long : length c.as_mut_slice.result.now ≡ size = c.as_mut_slice.ensures.len ∙ c.loop-sent.invariant.2 in
-    let after = pump (g.L.Line.view c.send.new.line) (take sent input ++ piece) c.send.new.account in
-    let went : Steps input size (pump (g.L.Line.view c.loop-sent.line) (take sent input) c.loop-sent.account) after =
-    subst (λ q. piece ≡ next_piece input q (take sent input) → Steps input q (pump (g.L.Line.view c.loop-sent.line) (take sent input) c.loop-sent.account) after)
-    long (c.in_ok-send.ensures input (take sent input)) cut in (
-      subst (λ q. Steps input size (begins (g.L.Line.view c.clear.new.self)) (pump (g.L.Line.view c.send.new.line) q c.send.new.account)) e
-          (steps_then c.loop-sent.invariant.0 went),
-      omega (arith, c.min-n.ensures, c.loop-sent.invariant.1),
-      c.loop-sent.invariant.2,
-    )
+    let i = c.loop-next.invariant in
+    let piece = c.in-Some.next.now in
+    let rest = chunks_rest c.loop-next.next-iterator in
+    let after = chunks_rest c.next.new.self in
+    let step = c.in-Some.ensures.steps in
+    let cut : piece ≡ next_piece input size i.fed =
+    next_cut input i.fed rest piece after size i.whole step.1.0 (step.1.1 ∙ ap (λ n. min n (length rest)) i.size) in
+    let went : Steps input size (pump (g.L.Line.view c.loop-next.line) i.fed c.loop-next.pumper.account)
+    (pump (g.L.Line.view c.send.new.line) (i.fed ++ piece) c.send.new.self.account) =
+    subst
+    (λ q. piece ≡ next_piece input q i.fed → Steps input q (pump (g.L.Line.view c.loop-next.line) i.fed c.loop-next.pumper.account)
+    (pump (g.L.Line.view c.send.new.line) (i.fed ++ piece) c.send.new.self.account))
+    i.long (c.in_ok-send.ensures.steps input i.fed) cut in
+    let same : chunks_size c.next.new.self ≡ size = step.0 ∙ i.size in
+    record {
+      can = omega (arith, same, c.args.piece.ok.0);
+      ends = tt;
+      size = same;
+      long = c.in_ok-send.ensures.long ∙ i.long;
+      fed = i.fed ++ piece;
+      whole = append_assoc i.fed piece after ∙ ap (λ q. i.fed ++ q) (sym step.1.0) ∙ i.whole;
+      steps = steps_then i.steps went;
+    }
 
 pub returns : goal.returns
 returns g c =
     let input = c.args.input.now in
     let size = c.args.piece.bytes in
-    let sent = c.loop-sent.sent in
+    let i = c.loop-next.invariant in
     let w = g.L.Line.view c.drain.new.line in
-    let a = c.drain.new.account in
-    let long : length c.as_mut_slice-2.result.now ≡ size = c.as_mut_slice-2.ensures.len ∙ c.loop-sent.invariant.2 in
-    let drawn : Steps input size (pump (g.L.Line.view c.loop-sent.line) (take sent input) c.loop-sent.account) (pump w (take sent input) a) =
-    subst (λ q. Steps input q (pump (g.L.Line.view c.loop-sent.line) (take sent input) c.loop-sent.account) (pump w (take sent input) a))
-    long (c.in_ok-drain.ensures.0 input (take sent input)) in
+    let a = c.drain.new.self.account in
+    let none : chunks_rest c.loop-next.next-iterator ≡ [] = nil_from_length _ c.in-None.ensures.steps.1.0 in
+    let all : i.fed ≡ input = sym (append-nil i.fed) ∙ ap (λ q. i.fed ++ q) (sym none) ∙ i.whole in
+    let drawn : Steps input size (pump (g.L.Line.view c.loop-next.line) i.fed c.loop-next.pumper.account) (pump w i.fed a) =
+    subst (λ q. Steps input q (pump (g.L.Line.view c.loop-next.line) i.fed c.loop-next.pumper.account) (pump w i.fed a))
+    i.long (c.in_ok-drain.ensures.0.steps input i.fed) in
     ended size c.clear.ensures
-    (subst (λ q. Steps input size (begins (g.L.Line.view c.clear.new.self)) (pump w q a)) (take_all sent input c.loop-sent-test.false)
-    (steps_then c.loop-sent.invariant.0 drawn))
+    (subst
+    (λ q. Steps input size (record { line = g.L.Line.view c.clear.new.self; fed = []; out = []; deeds = [] }) (pump w q a))
+    all (steps_then i.steps drawn))
     c.in_ok-drain.ensures.1

@@ -1,13 +1,18 @@
-use Rattle.std.proofs.Common.{◌≡◌, ◌-◌, ◌≤◌, [], length, take, vec_len}
+use Rattle.std.proofs.Common.{◌≡◌, ℕ, List, [], ◌++◌, vec_len}
+use Rattle.std.specs.Slice.Iter.{chunks_rest, chunks_size}
 use Rattle.pumping.specs.Pumping.{Steps, pump}
 use Rattle.pumping.proofs.runs.run.Given as goal
 
-abbrev pub invariant-loop-sent : goal.invariant-loop-sent
-invariant-loop-sent g l =
-    Steps l.input l.piece.bytes (record { line = g.L.Line.view l.initial.line; fed = []; out = []; deeds = [] })
-    (pump (g.L.Line.view l.line) (take l.sent l.input) l.account)
-    × (l.sent ≤ length l.input)
-    × (vec_len l.buffer ≡ l.piece.bytes)
-
-abbrev pub decreases-loop-sent : goal.decreases-loop-sent
-decreases-loop-sent g l = length l.input - l.sent
+-- What was fed, and what is left of the input, are the input.
+abbrev pub invariant-loop-next : goal.invariant-loop-next
+invariant-loop-next g l =
+    let steps = (goal.iterator-loop-next g) in record {
+      can : steps.can_next l.next-iterator;
+      ends : steps.is_finite l.next-iterator;
+      size : chunks_size l.next-iterator ≡ l.fn.piece.bytes;
+      long : vec_len l.pumper.buffer ≡ l.fn.piece.bytes;
+      fed : List ℕ;
+      whole : fed ++ chunks_rest l.next-iterator ≡ l.input;
+      steps : Steps l.input l.fn.piece.bytes (record { line = g.L.Line.view l.initial.line; fed = []; out = []; deeds = [] })
+          (pump (g.L.Line.view l.line) fed l.pumper.account);
+    }

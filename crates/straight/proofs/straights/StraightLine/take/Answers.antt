@@ -1,16 +1,6 @@
-use Rattle.std.proofs.Common.{◌≡◌, ◌+◌, ◌-◌, ◌≤◌, length, take, drop, sym, refl, ap, arith, false-eqb}
+use Rattle.std.proofs.Common.{◌-◌, ◌≤◌, length, sym, refl, arith, false-eqb}
 use Rattle.straight.specs.Views.{straight_took}
 use Rattle.straight.proofs.straights.StraightLine.take.Goals as goal
-
-pub returns-then-self-2 : goal.returns-then-self-2
-returns-then-self-2 c =
-    let s = c.args.self.now in
-    let b = c.args.buffer.now in
-    let z : 0 ≡ s.end - (s.start + 1) = omega (arith, c.if-self-2.true) in
-    straight_took s.bytes.items s.bytes.len s.start s.end (sym s.bytes.ok.0) s.ok b c.index.result.now _
-    (omega (arith, c.if-self.false, s.ok.0)) (omega (arith, false-eqb (length b) 0 c.if-is_empty.ensures)) c.index.ensures
-    (ap (λ n. take n (drop (s.start + 1) s.bytes.items)) z)
-    (omega arith) refl refl
 
 pub returns-else-self-2 : goal.returns-else-self-2
 returns-else-self-2 c =
