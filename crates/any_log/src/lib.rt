@@ -11,6 +11,7 @@ ghost use Rattle.any_log.specs.declared.AnyLog.TheVariants.{Journal, Indexed};
 use fault::Refusal;
 use message_log::Log;
 
+// An enum, with a match in each method: a program's choice of a log is handed out, and a `dyn Log` may not be.
 /// A journal or an indexed log.
 #[derive(Drop)]
 pub enum AnyLog {

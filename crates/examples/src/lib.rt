@@ -11,5 +11,5 @@ pub fn worked_examples_hold()
     ensures { WorkedExamplesHold }
 {
     packet::laws::examples_hold();
-    let _ = journal::laws::examples_hold();
+    journal::laws::examples_hold();
 }

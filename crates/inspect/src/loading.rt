@@ -3,33 +3,18 @@ ghost use Rattle.std.specs.Prelude.{◌≡◌, nat_le};
 ghost use Rattle.message_log.specs.Meaning.{size_limit};
 
 use journal::JOURNAL_LIMIT;
-use std::{fmt, fs, io};
+use std::{fs, io};
+use thiserror::Error;
 
 /// Why a file was not read.
-#[derive(Drop)]
+#[derive(Debug, Drop, Error)]
 pub enum Unread {
     /// It is larger than any journal.
+    #[error("not a journal: {0} bytes, and the largest has {largest}", largest = JOURNAL_LIMIT)]
     TooLarge(u64),
     /// It is missing, or cannot be read.
-    Failed(io::Error),
-}
-
-impl fmt::Display for Unread {
-    fn fmt<W: fmt::Write>(&self, f: &mut fmt::Formatter<W>) -> fmt::Result {
-        match self {
-            Unread::TooLarge(len) => write!(
-                f,
-                "not a journal: {len} bytes, and the largest has {JOURNAL_LIMIT}",
-            ),
-            Unread::Failed(error) => write!(f, "not read: {error}"),
-        }
-    }
-}
-
-impl From<io::Error> for Unread {
-    fn from(error: io::Error) -> Unread {
-        Unread::Failed(error)
-    }
+    #[error("not read: {0}")]
+    Failed(#[from] io::Error),
 }
 
 /// Whether a file of so many bytes can be a saved journal.

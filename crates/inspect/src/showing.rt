@@ -1,104 +1,87 @@
 //! Showing what a saved journal holds.
-ghost use Rattle.std.specs.Prelude.{◌≡◌, ◌≤◌, take, vec_len};
-ghost use Rattle.record.specs.Reading.{fault_at};
-
 use dump::{ROW, row};
-use fault::Refusal;
+use fault::{Refusal, Unmade};
 use journal::{JOURNAL_LEAST, JOURNAL_LIMIT, Journal};
 use message_log::Log;
-use record::{RecordFault, fault_at};
+use record::fault_at;
 use std::alloc::Global;
 use std::io;
 use std::io::Write;
 
-/// Shows one message: its number, where its record begins, its length, and its bytes.
-fn show_message<W: Write>(
-    heap: Global,
-    out: &mut W,
-    journal: &Journal,
-    n: usize,
-) -> io::Result<()> {
-    match (journal.place(n), journal.message(n)) {
-        (Ok(place), Ok(message)) => {
-            let len = message.len();
-            writeln!(out, "  message {n} at {place}, {len} bytes")?;
-            for bytes in message.chunks(ROW) {
-                out.write_all(b"    ")?;
-                out.write_all(&row(heap, bytes)?)?;
-                out.write_all(b"\n")?;
+/// Where journals are shown, and the heap that it takes.
+#[derive(Drop)]
+pub struct Report<W> {
+    pub heap: Global,
+    pub out: W,
+}
+
+impl<W: Write> Report<W> {
+    /// Shows one message: its number, where its record begins, its length, and its bytes.
+    fn show_message(&mut self, journal: &Journal, n: usize) -> io::Result<()> {
+        match (journal.place(n), journal.message(n)) {
+            (Ok(place), Ok(message)) => {
+                let len = message.len();
+                writeln!(self.out, "  message {n} at {place}, {len} bytes")?;
+                for bytes in message.chunks(ROW) {
+                    self.out.write_all(b"    ")?;
+                    self.out.write_all(&row(self.heap, bytes)?)?;
+                    self.out.write_all(b"\n")?;
+                }
+                Ok(())
             }
-            Ok(())
+            (Err(refusal), _) | (_, Err(refusal)) => {
+                writeln!(self.out, "  message {n}: {refusal}")
+            }
         }
-        (Err(refusal), _) | (_, Err(refusal)) => writeln!(out, "  message {n}: {refusal}"),
     }
-}
 
-/// Shows a journal: its session, the number of its messages, the bytes used and free, and each message.
-fn show_journal<W: Write>(heap: Global, out: &mut W, journal: &Journal) -> io::Result<()> {
-    let session = journal.session();
-    let count = journal.count();
-    let used = journal.bytes().len();
-    let free = JOURNAL_LIMIT.saturating_sub(used);
-    writeln!(
-        out,
-        "  session {session}; messages {count}; bytes used {used}, free {free}"
-    )?;
-    for n in 0..count {
-        show_message(heap, out, journal, n + 1)?;
-    }
-    Ok(())
-}
-
-/// What is wrong at this place of the first `used` bytes, if anything is.
-fn cause(memory: &Vec<u8>, used: usize, place: usize) -> Option<RecordFault>
-    ensures { used ≤ vec_len memory.now → result ≡ fault_at (take used memory.now.items) place }
-{
-    if used > memory.len() {
-        return None;
-    }
-    fault_at(&memory[0..used], place)
-}
-
-/// Shows why a log was not opened, and what can still be read before the place where it is broken.
-fn show_refused<W: Write>(
-    heap: Global,
-    out: &mut W,
-    path: &str,
-    memory: Vec<u8>,
-    used: usize,
-    refusal: Refusal,
-) -> io::Result<()> {
-    let Refusal::BrokenLog(place) = refusal else {
-        return writeln!(out, "{path}: {refusal}");
-    };
-    match cause(&memory, used, place) {
-        Some(fault) => writeln!(out, "{path}: broken at place {place}: {fault}")?,
-        None => writeln!(out, "{path}: broken at place {place}")?,
-    }
-    match Journal::open(heap, memory, place) {
-        Ok(journal) => {
-            writeln!(out, "  before it")?;
-            show_journal(heap, out, &journal)
+    /// Shows a journal: its session, the number of its messages, the bytes used and free, and each message.
+    fn show_journal(&mut self, journal: &Journal) -> io::Result<()> {
+        let session = journal.session();
+        let count = journal.count();
+        let used = journal.bytes().len();
+        let free = JOURNAL_LIMIT.saturating_sub(used);
+        writeln!(
+            self.out,
+            "  session {session}; messages {count}; bytes used {used}, free {free}"
+        )?;
+        for n in 1..=count {
+            self.show_message(journal, n)?;
         }
-        Err(_) => writeln!(out, "  nothing can be read before it"),
+        Ok(())
     }
-}
 
-/// Shows what the bytes of a file hold.
-pub fn show_saved<W: Write>(
-    heap: Global,
-    out: &mut W,
-    path: &str,
-    mut memory: Vec<u8>,
-) -> io::Result<()> {
-    let used = memory.len();
-    // A journal needs memory for its session record, also where the file is too short to hold one.
-    memory.resize(used.max(JOURNAL_LEAST), 0)?;
-    match Journal::open(heap, memory, used) {
-        Ok(journal) => {
-            writeln!(out, "{path}: sound")?;
-            show_journal(heap, out, &journal)
+    /// Shows why a log was not opened whose bytes in use were the first `used`, and what can still be read before the
+    /// place where it is broken.
+    fn show_refused(&mut self, path: &str, unmade: Unmade<Vec<u8>>, used: usize) -> io::Result<()> {
+        let Refusal::BrokenLog(place) = unmade.refusal else {
+            return writeln!(self.out, "{path}: {}", unmade.refusal);
+        };
+        let saved = unmade.given.get(..used);
+        match saved.and_then(|bytes| fault_at(bytes, place)) {
+            Some(fault) => writeln!(self.out, "{path}: broken at place {place}: {fault}")?,
+            None => writeln!(self.out, "{path}: broken at place {place}")?,
         }
-        Err(unmade) => show_refused(heap, out, path, unmade.given, used, unmade.refusal),
+        match Journal::open(self.heap, unmade.given, place) {
+            Ok(journal) => {
+                writeln!(self.out, "  before it")?;
+                self.show_journal(&journal)
+            }
+            Err(_) => writeln!(self.out, "  nothing can be read before it"),
+        }
+    }
+
+    /// Shows what the bytes of a file hold.
+    pub fn show_saved(&mut self, path: &str, mut memory: Vec<u8>) -> io::Result<()> {
+        let used = memory.len();
+        // A journal needs memory for its session record, also where the file is too short to hold one.
+        memory.resize(used.max(JOURNAL_LEAST), 0)?;
+        match Journal::open(self.heap, memory, used) {
+            Ok(journal) => {
+                writeln!(self.out, "{path}: sound")?;
+                self.show_journal(&journal)
+            }
+            Err(unmade) => self.show_refused(path, unmade, used),
+        }
     }
 }

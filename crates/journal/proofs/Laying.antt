@@ -1,19 +1,26 @@
 -- The bytes in use, and one record more.
-use Rattle.std.proofs.Common.{◌≡◌, ℕ, ◌+◌, ◌-◌, ◌<◌, ◌≤◌, List, [], ◌∷◌, ◌++◌, length, get_or, take, drop, set, Ok, sym, refl, ap, ◌∙◌, arith}
+use Rattle.std.proofs.Common.{◌≡◌, ℕ, ◌+◌, ◌-◌, ◌<◌, ◌≤◌, List, [], ◌∷◌, ◌++◌, length, get_or, take, drop, Ok, Err, Result, sym, refl, ap, ◌∙◌, arith}
 use Rattle.std.specs.List.{between}
-use Rattle.std.proofs.lemmas.List.{flat_map_more, take-append-drop, take-take, take_at, drop-take, drop-drop, length-append, length-take-le, length-set}
+use Rattle.std.proofs.lemmas.List.{flat_map_more, take-append-drop, take-take, take_at, drop-take, drop-drop, length-append, length-take-le}
 use Rattle.layout.specs.Limits.{message_limit}
-use Rattle.pool.specs.Bytes.{Bytes, over}
+use Rattle.pool.specs.Bytes.{Bytes}
+use Rattle.pool.specs.Kept.{used, kept}
+use Rattle.pool.specs.declared.parts.Parts.{Parts}
+use Rattle.fault.specs.declared.refusals.Refusal.{Refusal}
+use Rattle.message_log.specs.Meaning.{Meaning}
+use Rattle.message_log.specs.Calls.{settled, takes}
+use Rattle.pool.proofs.Keeping.{within_kept, taken_kept}
 use Rattle.pool.specs.Parts.{edge, parts}
-use Rattle.pool.proofs.Filed.{short_parts}
-use Rattle.pool.proofs.Edges.{rising_more, edge_more, parts_set}
+use Rattle.pool.proofs.Filed.{short_parts, edge_low}
 use Rattle.record.specs.Format.{session_record, message_record, saved}
-use Rattle.pool.proofs.Overlays.{bytes_take, bytes_between, take_over, between_over}
+use Rattle.pool.proofs.Runs.{bytes_take, bytes_between}
+use Rattle.record.specs.declared.records.RecordFault.{RecordFault}
 use Rattle.record.specs.Reading.{session_of, message_of}
+use Rattle.std.proofs.lemmas.Slice.{between_is}
 use Rattle.record.proofs.Framed.{session_was_written, message_was_written}
 use Rattle.std.proofs.lemmas.List.Edits.{length-between}
-use Rattle.journal.specs.Layout.{base, gap, Laid}
-use Rattle.journal.specs.Opening.{Savable}
+use Rattle.journal.specs.Layout.{base, gap, Formed, Indexed}
+use Rattle.journal.specs.Opening.{Savable, Broken, later}
 
 -- a front of a + k, in two
 pub take_both : (a k : ℕ) (xs : List ℕ) → take (a + k) xs ≡ take a xs ++ take k (drop a xs)
@@ -25,10 +32,6 @@ take_both a k xs =
 pub saved_more : (s : ℕ) (ms : List (List ℕ)) (m : List ℕ) → saved s ms ++ message_record m ≡ saved s (ms ++ m ∷ [])
 saved_more s ms m = flat_map_more message_record (session_record s) ms m
 
--- no message yet
-pub laid_none : (mem ends : List ℕ) (s : ℕ) → s < 256 → take base mem ≡ session_record s → Laid mem ends base s 0
-laid_none mem ends s byte is = ((λ k h. absurd (omega arith)), refl, omega arith, byte, (λ z. refl), is)
-
 -- the body of a record that stands at `at`
 pub body_is : (mem m : List ℕ) (at e : ℕ) → take (4 + length m) (drop at mem) ≡ message_record m → e ≡ at + gap + length m → between (at + gap) e mem ≡ m
 body_is mem m at e is end =
@@ -37,34 +40,6 @@ body_is mem m at e is end =
     ∙ (ap (take (length m)) (sym (drop-drop gap at mem))
     ∙ (sym (drop-take gap (length m) (drop at mem))
     ∙ ap (drop gap) is))
-
--- what a record that is written at u leaves: the bytes before it, and the record
-pub wrote_record : (mem mem' m : List ℕ) (u : ℕ) → mem' ≡ over mem u (message_record m) → u ≤ length mem → (take u mem' ≡ take u mem) × (take (4 + length m) (drop u mem') ≡ message_record m)
-wrote_record mem mem' m u is w =
-    let e = u + (4 + length m) in
-    let four : 4 + length m ≡ e - u = omega arith in
-    (ap (take u) is ∙ take_over mem u (message_record m) w, ap (λ k. take k (drop u mem')) four ∙ (ap (between u e) is ∙ between_over mem u (message_record m) e w (omega arith)))
-
--- one record more, at the end of the bytes in use
-pub laid_more : (mem mem' ends m : List ℕ) (at e s n : ℕ) → Laid mem ends at s n → take at mem' ≡ take at mem → take (4 + length m) (drop at mem') ≡ message_record m → e ≡ at + gap + length m → length m ≤ message_limit → 0 < s → n < length ends → Laid mem' (set ends n e) e s (n + 1)
-laid_more mem mem' ends m at e s n laid same is end short pos l =
-    let more = parts_set base gap ends n at (length m) e l laid.0 laid.1 end mem mem' m refl same (body_is mem' m at e is end) in
-    let both : e ≡ at + (4 + length m) = omega arith in
-    let form : take e mem' ≡ saved s (parts mem (edge base ends) gap n ++ m ∷ []) =
-    ap (λ k. take k mem') both
-    ∙ (take_both at (4 + length m) mem'
-    ∙ (ap (λ t. t ++ take (4 + length m) (drop at mem')) (same ∙ laid.5)
-    ∙ (ap (λ t. saved s (parts mem (edge base ends) gap n) ++ t) is
-    ∙ saved_more s (parts mem (edge base ends) gap n) m)))
-    in
-    let long = length-set ends n e in (
-      rising_more base gap ends n at (length m) e l laid.0 laid.1 end short,
-      edge_more base gap ends n at (length m) e l laid.0 laid.1 end,
-      omega arith,
-      laid.3,
-      λ z. absurd (omega arith),
-      form ∙ ap (saved s) (sym more),
-    )
 
 -- the session record that was read at the front
 pub session_laid : (mem : List ℕ) (used s : ℕ) → Bytes mem → used ≤ length mem → session_of (take used mem) ≡ Ok s → (base ≤ used) × (take base mem ≡ session_record s) × (s < 256)
@@ -88,6 +63,45 @@ message_laid mem m used at s bytes w e =
     let inside : 4 + length m ≤ used - at = omega arith in
     (omega arith, sym (take-take (4 + length m) (used - at) (drop at mem) inside) ∙ (ap (take (4 + length m)) was.0 ∙ take_at (message_record m) rest (4 + length m) (omega arith)), was.1, was.2)
 
--- what is laid is what a log can hold
-pub savable_laid : (mem ends : List ℕ) (used s n : ℕ) → Laid mem ends used s n → used ≤ length mem → Savable s (parts mem (edge base ends) gap n)
-savable_laid mem ends used s n laid w = record { short = short_parts mem (edge base ends) gap n laid.0 (omega arith); silent = λ z. ap (parts mem (edge base ends) gap) (laid.4 z) }
+-- what such messages are is what a log can hold
+pub savable_kept : (p : Parts base gap) → Savable p.session (parts p.memory.items (edge base p.ends.items) gap p.count)
+savable_kept p = record { short = short_parts p.memory.items (edge base p.ends.items) gap p.count p.rising (within_kept base gap p); silent = λ z. ap (parts p.memory.items (edge base p.ends.items) gap) (p.silent z) }
+
+-- the saved form after a call that changes the log to l and the bytes to memory', u of them in use
+pub formed_settled : (r : Result (Unit {0}) Refusal) (p q : Parts base gap) (l : Meaning) (memory' : List ℕ) (u : ℕ) → kept base gap q ≡ settled r l (kept base gap p) → q.memory.items ≡ settled r memory' p.memory.items → used base gap q ≡ settled r u (used base gap p) → Formed p → (r ≡ Ok tt → take u memory' ≡ saved l.session l.messages) → Formed q
+formed_settled (Ok x) p q l memory' u log memory end form new =
+    let same = ap (λ k. saved k.session k.messages) log in
+    ap (λ k. take k q.memory.items) end ∙ (ap (take u) memory ∙ (new refl ∙ sym same))
+formed_settled (Err e) p q l memory' u log memory end form new =
+    let same = ap (λ k. saved k.session k.messages) log in
+    ap (λ k. take k q.memory.items) end ∙ (ap (take (used base gap p)) memory ∙ (form ∙ sym same))
+
+-- behind these messages stands no record that may stand there
+pub broken_later : (p : Parts base gap) (end at s : ℕ) (f : RecordFault) → Formed p → p.session ≡ s → at ≡ used base gap p → at < end → end ≤ length p.memory.items → message_of s (between at end p.memory.items) ≡ Err f → Broken (take end p.memory.items) at
+broken_later p end at s f form bears is lt w bad =
+    let mem = p.memory.items in
+    let long = length-take-le end mem w in
+    let front : take at (take end mem) ≡ saved p.session (parts mem (edge base p.ends.items) gap p.count) = take-take at end mem (omega arith) ∙ (ap (λ k. take k mem) is ∙ form) in
+    later p.session _ at f (savable_kept p) front (omega arith) (ap (message_of p.session) (sym (between_is mem at end)) ∙ (ap (λ k. message_of k (between at end mem)) bears ∙ bad))
+
+-- behind these messages stands the record of m: it is taken in
+pub next_kept : (p : Parts base gap) (end at s : ℕ) (m : List ℕ) → Formed p → Indexed p → p.session ≡ s → at ≡ used base gap p → end ≤ length p.memory.items → message_of s (between at end p.memory.items) ≡ Ok m → (takes (kept base gap p) (length m) ≡ Ok tt) × (used base gap p + gap + length m ≤ end) × (take (used base gap p + gap + length m) p.memory.items ≡ saved p.session (parts p.memory.items (edge base p.ends.items) gap p.count ++ between (used base gap p + gap) (used base gap p + gap + length m) p.memory.items ∷ []))
+next_kept p end at s m form indexed bears is w ok =
+    let mem = p.memory.items in
+    let u = used base gap p in
+    let e = u + gap + length m in
+    let ms = parts mem (edge base p.ends.items) gap p.count in
+    let here = message_laid mem m end at s p.bytes w ok in
+    let record_at : take (4 + length m) (drop u mem) ≡ message_record m = ap (λ k. take (4 + length m) (drop k mem)) (sym is) ∙ here.1 in
+    let body = body_is mem m u e record_at refl in
+    let low = edge_low (edge base p.ends.items) p.count p.rising in
+    let both : e ≡ u + (4 + length m) = omega arith in (
+      taken_kept base gap p (length m) here.2 (omega arith) (omega arith) (omega arith),
+      omega arith,
+      ap (λ k. take k mem) both
+          ∙ (take_both u (4 + length m) mem
+          ∙ (ap (λ t. t ++ take (4 + length m) (drop u mem)) form
+          ∙ (ap (λ t. saved p.session ms ++ t) record_at
+          ∙ (saved_more p.session ms m
+          ∙ ap (λ t. saved p.session (ms ++ t ∷ [])) (sym body))))),
+    )

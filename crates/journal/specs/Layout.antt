@@ -2,12 +2,14 @@
 --
 --     0            5                    edge 1                      used
 --     | session 7  | 4D 47 length  m1   | 4D 47 length  m2  | ..     |  free ..
-use Rattle.std.specs.Prelude.{◌≡◌, ℕ, ◌+◌, ◌-◌, ◌/◌, ◌<◌, ◌≤◌, Bool, cond, ◌&&◌, List, length, take, Ok, Err, Result, nat_le}
+use Rattle.std.specs.Prelude.{◌≡◌, ℕ, ◌+◌, ◌-◌, ◌/◌, Bool, cond, ◌&&◌, List, length, take, Ok, Err, Result, nat_le}
 use Rattle.fault.specs.declared.refusals.Refusal.{Refusal}
 use Rattle.fault.specs.declared.refusals.Refusal.TheVariants.{NoSuchMessage}
 use Rattle.message_log.specs.Meaning.{Meaning, size_limit, taken}
 use Rattle.message_log.specs.Calls.{has}
-use Rattle.pool.specs.Parts.{edge, parts, Rising, filed}
+use Rattle.pool.specs.Parts.{edge, parts}
+use Rattle.pool.specs.Kept.{used, placed as placed_behind}
+use Rattle.pool.specs.declared.parts.Parts.{Parts}
 use Rattle.record.specs.Format.{saved}
 
 -- the session record
@@ -33,20 +35,14 @@ places_of n = size_of n / gap
 abbrev pub journal : ℕ → ℕ → List (List ℕ) → Meaning
 journal n s ms = record { session = s; messages = ms; size = size_of n; overhead = gap; places = places_of n }
 
--- the journal in memory, with an index of where each record ends
-abbrev pub journaled : ℕ → List ℕ → List ℕ → ℕ → Meaning
-journaled s mem ends n = filed s mem (edge base ends) gap (size_of (length mem)) (places_of (length mem)) n
-
 -- where the record of message n begins: behind the session record and the records before it
 abbrev pub placed : Meaning → ℕ → Result ℕ Refusal
-placed l n = cond (has l n) (Ok (base + taken l.overhead (take (n - 1) l.messages))) (Err NoSuchMessage)
+placed l n = placed_behind base l n
+
+-- the index has a place for each message that there can be
+abbrev pub Indexed : Parts base gap → Type 0
+Indexed p = length p.ends.items ≡ places_of (length p.memory.items)
 
 -- the bytes in use are the saved form of what the index finds
-abbrev pub Laid : List ℕ → List ℕ → ℕ → ℕ → ℕ → Type 0
-Laid mem ends used s n =
-    Rising (edge base ends) gap n
-    × (used ≡ edge base ends n)
-    × (n ≤ length ends)
-    × (s < 256)
-    × (s ≡ 0 → n ≡ 0)
-    × (take used mem ≡ saved s (parts mem (edge base ends) gap n))
+abbrev pub Formed : Parts base gap → Type 0
+Formed p = take (used base gap p) p.memory.items ≡ saved p.session (parts p.memory.items (edge base p.ends.items) gap p.count)

@@ -4,18 +4,14 @@ ghost use Rattle.journal.specs.Examples.{Hold, examples};
 
 /// The saved form tells the log: no two logs have the same form, no saved log is broken, and broken bytes are broken
 /// at one place, where it can be told what is wrong.
-pub fn form_tells_the_log() -> u8
+pub fn form_tells_the_log()
     ensures once { SavedOnce }
     ensures sound { SavedIsSound }
     ensures place { BrokenOnce }
     ensures fault { BrokenHasAFault }
-{
-    0
-}
+{}
 
 /// The worked examples hold.
-pub fn examples_hold() -> u8
+pub fn examples_hold()
     ensures { Hold examples }
-{
-    0
-}
+{}

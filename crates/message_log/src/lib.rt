@@ -13,5 +13,5 @@ pub mod laws;
 pub mod logs;
 pub mod space;
 
-pub use logs::Log;
+pub use logs::{Log, SIZE_LIMIT};
 pub use space::Space;

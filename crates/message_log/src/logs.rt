@@ -5,6 +5,9 @@ ghost use Rattle.message_log.specs.Calls.{takes, begins, settled, measured, read
 
 use fault::Refusal;
 
+/// The largest size of a log in bytes, and the largest overhead and number of places.
+pub const SIZE_LIMIT: usize = 16_777_216;
+
 /// A log: a session and a list of messages, numbered from 1.
 ///
 /// A refused call changes nothing, neither the log nor the buffer. The questions (`session`, `count`, `length_of`,

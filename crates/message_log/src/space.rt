@@ -26,10 +26,8 @@ impl Space {
         if bytes > MESSAGE_LIMIT {
             return Err(Refusal::MessageTooLong);
         }
-        if bytes > self.room || self.overhead > self.room - bytes {
-            return Err(Refusal::LogFull);
-        }
-        if self.places == 0 {
+        let taken = bytes.checked_add(self.overhead);
+        if taken.is_none_or(|taken| taken > self.room) || self.places == 0 {
             return Err(Refusal::LogFull);
         }
         if self.session == 0 {

@@ -1,3 +1,4 @@
-pub mod Overlays
+pub mod Runs
 pub mod Filed
 pub mod Edges
+pub mod Keeping

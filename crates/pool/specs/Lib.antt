@@ -1,2 +1,3 @@
 pub mod Bytes
 pub mod Parts
+pub mod Kept

@@ -7,5 +7,7 @@
 #![tactic(auto)]
 
 pub mod bytes;
+pub mod parts;
 
-pub use bytes::{are_bytes, copy_out, edge_at, put};
+pub use bytes::{are_bytes, copy_out, edge_at};
+pub use parts::Parts;

@@ -13,14 +13,14 @@ pub fn read_record(bytes: &[u8]) -> Result<Record<'_>, RecordFault>
     let [first, second, low, high, rest @ ..] = bytes else {
         return Err(RecordFault::CutShort);
     };
-    let length = *low as usize + 256 * *high as usize;
+    let length = usize::from(u16::from_le_bytes([*low, *high]));
     if rest.len() < length {
         return Err(RecordFault::CutShort);
     }
-    let mark = Mark::from_bytes(*first, *second)?;
+    let mark = Mark::try_from([*first, *second])?;
     Ok(Record {
         mark,
-        body: &rest[0..length],
+        body: &rest[..length],
     })
 }
 
@@ -56,19 +56,11 @@ pub fn fault_at(bytes: &[u8], place: usize) -> Option<RecordFault>
     ensures { result ≡ fault_at bytes.now place }
 {
     if place == 0 {
-        return match read_session(bytes) {
-            Ok(_) => None,
-            Err(fault) => Some(fault),
-        };
+        return read_session(bytes).err();
     }
-    if bytes.len() < 5 {
-        return None;
-    }
+    let session = bytes.get(4)?;
     if place > bytes.len() {
         return None;
     }
-    match read_message(&bytes[place..], bytes[4]) {
-        Ok(_) => None,
-        Err(fault) => Some(fault),
-    }
+    read_message(&bytes[place..], *session).err()
 }

@@ -1,9 +1,9 @@
 //! Marks, records, and what can be wrong with one.
-ghost use Rattle.std.specs.Prelude.{◌≡◌};
-ghost use Rattle.record.specs.Format.{head_of};
+ghost use Rattle.std.specs.Prelude.{◌≡◌, slice_index};
+ghost use Rattle.record.specs.Format.{mark_bytes, head_of};
 ghost use Rattle.record.specs.Reading.{mark_of};
 
-use std::fmt;
+use thiserror::Error;
 
 /// What a record holds.
 #[derive(Clone, Copy)]
@@ -13,17 +13,22 @@ pub enum Mark {
 }
 
 /// What is wrong with a record, in the order in which it is judged.
-#[derive(Clone, Copy)]
+#[derive(Clone, Copy, PartialEq, Eq, Debug, Error)]
 pub enum RecordFault {
     /// Its head or its body runs past the end.
+    #[error("the record runs past the end")]
     CutShort,
     /// It has a mark that no record has.
+    #[error("no record has this mark")]
     UnknownMark,
     /// The session record is missing at the front, is not of length 1, or is repeated.
+    #[error("the session record is missing, not of length 1, or repeated")]
     BadSession,
     /// It holds a message that is too long.
+    #[error("the message is too long")]
     MessageTooLong,
     /// It holds a message, and the session is 0.
+    #[error("the log holds a message under session 0")]
     NoSession,
 }
 
@@ -34,40 +39,40 @@ pub struct Record<'a> {
     pub body: &'a [u8],
 }
 
-impl Mark {
-    /// The mark that is written by these two bytes.
-    pub fn from_bytes(first: u8, second: u8) -> Result<Mark, RecordFault>
-        ensures { result ≡ mark_of first second }
-    {
-        match (first, second) {
-            (b'B', b'S') => Ok(Mark::Session),
-            (b'M', b'G') => Ok(Mark::Message),
-            _ => Err(RecordFault::UnknownMark),
-        }
-    }
+/// The mark that is written by two bytes.
+impl TryFrom<[u8; 2]> for Mark {
+    type Error = RecordFault;
 
-    /// The four bytes before a body of this length.
-    pub fn head(self, length: usize) -> [u8; 4]
-        ensures { result ≡ head_of self length }
-    {
-        let low = (length % 256) as u8;
-        let high = (length / 256 % 256) as u8;
-        match self {
-            Mark::Session => [b'B', b'S', low, high],
-            Mark::Message => [b'M', b'G', low, high],
+    ghost try_from_gives = { λ bytes r. r ≡ mark_of (slice_index bytes 0) (slice_index bytes 1) };
+
+    fn try_from(bytes: [u8; 2]) -> Result<Mark, RecordFault> {
+        match &bytes {
+            b"BS" => Ok(Mark::Session),
+            b"MG" => Ok(Mark::Message),
+            _ => Err(RecordFault::UnknownMark),
         }
     }
 }
 
-impl fmt::Display for RecordFault {
-    fn fmt<W: fmt::Write>(&self, f: &mut fmt::Formatter<W>) -> fmt::Result {
-        f.write_str(match self {
-            RecordFault::CutShort => "the record runs past the end",
-            RecordFault::UnknownMark => "no record has this mark",
-            RecordFault::BadSession =>
-                "the session record is missing, not of length 1, or repeated",
-            RecordFault::MessageTooLong => "the message is too long",
-            RecordFault::NoSession => "the log holds a message under session 0",
-        })
+/// The two bytes that write a mark.
+impl From<Mark> for [u8; 2] {
+    ghost from_gives = { λ mark r. r ≡ mark_bytes mark };
+
+    fn from(mark: Mark) -> [u8; 2] {
+        match mark {
+            Mark::Session => *b"BS",
+            Mark::Message => *b"MG",
+        }
+    }
+}
+
+impl Mark {
+    /// The four bytes before a body of this length.
+    pub fn head(self, length: usize) -> [u8; 4]
+        ensures { result ≡ head_of self length }
+    {
+        let [first, second]: [u8; 2] = self.into();
+        let [low, high] = ((length % 65_536) as u16).to_le_bytes();
+        [first, second, low, high]
     }
 }

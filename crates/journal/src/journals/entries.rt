@@ -1,88 +1,51 @@
 //! A journal as a log.
-ghost use Rattle.std.specs.Prelude.{◌≡◌, ◌+◌, ◌-◌, ◌≤◌, length, vec_len};
+ghost use Rattle.std.specs.Prelude.{◌≡◌};
 ghost use Rattle.message_log.specs.Calls.{Lent};
-ghost use Rattle.pool.specs.Bytes.{Bytes, over};
-ghost use Rattle.record.specs.Format.{message_record, saved};
-ghost use Rattle.journal.specs.Layout.{gap, journaled, placed};
+ghost use Rattle.pool.specs.Kept.{kept};
+ghost use Rattle.record.specs.Format.{saved};
+ghost use Rattle.journal.specs.Layout.{base, gap, placed};
 ghost use Rattle.journal.specs.Sounds.{journal_sound};
 
-use super::{JOURNAL_LEAST, Journal, RECORD_HEAD, write_session};
+use super::{Journal, session_record};
 use fault::Refusal;
-use message_log::{Log, Space};
-use pool::{are_bytes, copy_out, edge_at, put};
+use message_log::Log;
+use pool::copy_out;
 use record::Mark;
-
-/// Writes the record of a message over the bytes from `at` on.
-fn write_message(memory: &mut Vec<u8>, at: usize, message: &[u8])
-    requires { at + gap + length message.now ≤ vec_len memory.old }
-    ensures len { vec_len memory.new ≡ vec_len memory.old }
-    ensures items { memory.new.items ≡ over memory.old.items at (message_record message.now) }
-    ensures bytes { Bytes (message_record message.now) }
-{
-    let head = Mark::Message.head(message.len());
-    are_bytes(&head);
-    are_bytes(message);
-    put(memory, at, &head);
-    put(memory, at + RECORD_HEAD, message);
-}
 
 impl Journal {
     /// The bytes in use: the log in its saved form.
     pub fn bytes(&self) -> &[u8]
-        ensures { result.now ≡ saved (journaled self.now.session self.now.memory.items self.now.ends.items self.now.count).session (journaled self.now.session self.now.memory.items self.now.ends.items self.now.count).messages }
+        ensures { result.now ≡ saved (⟦<Journal as Log>⟧.view self.now).session (⟦<Journal as Log>⟧.view self.now).messages }
     {
-        &self.memory[0..self.used]
+        &self.parts.memory[..self.parts.used()]
     }
 
     /// Message n, where it lies.
     pub fn message(&self, n: usize) -> Result<&[u8], Refusal>
-        ensures { Lent (journaled self.now.session self.now.memory.items self.now.ends.items self.now.count) n result }
+        ensures { Lent (⟦<Journal as Log>⟧.view self.now) n result }
     {
-        if n == 0 || n > self.count {
-            return Err(Refusal::NoSuchMessage);
-        }
-        let start = edge_at(JOURNAL_LEAST, &self.ends, n - 1) + RECORD_HEAD;
-        let end = edge_at(JOURNAL_LEAST, &self.ends, n);
-        Ok(&self.memory[start..end])
+        self.parts.message(n)
     }
 
     /// Where the record of message n begins.
     pub fn place(&self, n: usize) -> Result<usize, Refusal>
-        ensures { result ≡ placed (journaled self.now.session self.now.memory.items self.now.ends.items self.now.count) n }
+        ensures { result ≡ placed (⟦<Journal as Log>⟧.view self.now) n }
     {
-        if n == 0 || n > self.count {
-            return Err(Refusal::NoSuchMessage);
-        }
-        Ok(edge_at(JOURNAL_LEAST, &self.ends, n - 1))
-    }
-
-    /// What is left.
-    fn space(&self) -> Space
-        ensures session { result.session ≡ self.now.session }
-        ensures room { result.room ≡ vec_len self.now.memory - self.now.used }
-        ensures places { result.places ≡ vec_len self.now.ends - self.now.count }
-        ensures overhead { result.overhead ≡ gap }
-    {
-        Space {
-            session: self.session,
-            room: self.memory.len() - self.used,
-            places: self.ends.len() - self.count,
-            overhead: RECORD_HEAD,
-        }
+        self.parts.place(n)
     }
 }
 
 impl Log for Journal {
-    ghost view = { λ s. journaled s.session s.memory.items s.ends.items s.count };
+    ghost view = { λ s. kept base gap s.parts };
 
     ghost sound = { λ s. journal_sound s };
 
     fn session(&self) -> u8 {
-        self.session
+        self.parts.session
     }
 
     fn count(&self) -> usize {
-        self.count
+        self.parts.count()
     }
 
     fn length_of(&self, n: usize) -> Result<usize, Refusal> {
@@ -90,28 +53,16 @@ impl Log for Journal {
     }
 
     fn would_take(&self, bytes: usize) -> Result<(), Refusal> {
-        self.space().judge(bytes)
+        self.parts.would_take(bytes)
     }
 
     fn begin(&mut self, session: u8) -> Result<(), Refusal> {
-        if session == 0 {
-            return Err(Refusal::SessionZero);
-        }
-        write_session(&mut self.memory, session);
-        self.session = session;
-        self.count = 0;
-        self.used = JOURNAL_LEAST;
-        Ok(())
+        self.parts.begin(session, session_record(session))
     }
 
     fn append(&mut self, message: &[u8]) -> Result<(), Refusal> {
-        self.would_take(message.len())?;
-        let end = self.used + RECORD_HEAD + message.len();
-        write_message(&mut self.memory, self.used, message);
-        self.ends[self.count] = end as u32;
-        self.count += 1;
-        self.used = end;
-        Ok(())
+        self.parts
+            .append(Mark::Message.head(message.len()), message)
     }
 
     fn read(&self, n: usize, buffer: &mut [u8]) -> Result<usize, Refusal> {

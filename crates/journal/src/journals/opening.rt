@@ -1,15 +1,16 @@
 //! Making and opening a journal.
 ghost use Rattle.std.specs.Prelude.{◌≡◌, ℕ, ◌≤◌, true, List, [], take, vec_len, MatchResult};
 ghost use Rattle.fault.specs.declared.refusals.Refusal.TheVariants as R;
-ghost use Rattle.message_log.specs.Meaning.{size_limit};
-ghost use Rattle.pool.specs.Bytes.{Bytes};
 ghost use Rattle.record.specs.Format.{saved};
-ghost use Rattle.journal.specs.Layout.{makes, places_of, journal, journaled, Laid};
+ghost use Rattle.pool.specs.Kept.{kept, used as end_of};
+ghost use Rattle.journal.specs.Layout.{base, gap, makes, places_of, journal, Formed, Indexed};
 ghost use Rattle.journal.specs.Opening.{Savable, Broken, Unmakable, Unopened, Opened, opens};
 
-use super::{JOURNAL_LEAST, JOURNAL_LIMIT, Journal, RECORD_HEAD, blank, filled};
+use super::{JOURNAL_LEAST, JOURNAL_LIMIT, Journal, RECORD_HEAD, session_record};
 use fault::{Refusal, Unmade};
-use pool::are_bytes;
+use memory::lay;
+use message_log::Log;
+use pool::Parts;
 use record::{read_message, read_session};
 use std::alloc::Global;
 
@@ -20,57 +21,66 @@ fn index(heap: Global, len: usize) -> Result<Vec<u32>, Refusal>
     if len < JOURNAL_LEAST || len > JOURNAL_LIMIT {
         return Err(Refusal::SizeOutOfRange);
     }
-    match vec![in heap; 0u32; (len - JOURNAL_LEAST) / RECORD_HEAD] {
-        Ok(ends) => Ok(ends),
-        Err(_) => Err(Refusal::OutOfMemory),
+    Ok(vec![in heap; 0u32; (len - JOURNAL_LEAST) / RECORD_HEAD]?)
+}
+
+/// This memory, with an index beside it.
+fn with_index(heap: Global, memory: Vec<u8>) -> Result<(Vec<u8>, Vec<u32>), Unmade<Vec<u8>>>
+    ensures { MatchResult result (λ p. (p.0 ≡ memory) × (makes (vec_len memory) ≡ true) × (vec_len p.1 ≡ places_of (vec_len memory))) (λ u. (u.given ≡ memory) × Unmakable (vec_len memory) u.refusal) }
+{
+    match index(heap, memory.len()) {
+        Ok(ends) => Ok((memory, ends)),
+        Err(refusal) => Err(Unmade {
+            refusal,
+            given: memory,
+        }),
     }
 }
 
-/// Walks the records in the first `used` bytes and notes in the index where each one ends. It tells the session and
-/// the number of messages, or the place of the first bad record.
-fn walk(memory: &Vec<u8>, used: usize, ends: &mut Vec<u32>) -> Result<(u8, usize), usize>
-    requires within { used ≤ vec_len memory.now }
-    requires small { vec_len memory.now ≤ size_limit }
-    requires indexed { vec_len ends.old ≡ places_of (vec_len memory.now) }
-    ensures len { vec_len ends.new ≡ vec_len ends.old }
-    ensures bytes { Bytes memory.now.items }
-    ensures cases { MatchResult result (λ p. Laid memory.now.items ends.new.items used p.0 p.1) (λ place. Broken (take used memory.now.items) place) }
+/// Reads the records in the first `used` bytes and takes in what they hold.
+fn walk(parts: &mut Parts<JOURNAL_LEAST, RECORD_HEAD>, used: usize) -> Result<(), Refusal>
+    requires within { used ≤ vec_len parts.old.memory }
+    requires indexed { Indexed parts.old }
+    requires empty { parts.old.count ≡ 0 }
+    ensures memory { parts.new.memory ≡ parts.old.memory }
+    ensures cases { MatchResult result (λ _. Indexed parts.new × Formed parts.new × (end_of base gap parts.new ≡ used)) (λ e. (place : ℕ) × (e ≡ R.BrokenLog place) × Broken (take used parts.old.memory.items) place) }
 {
-    are_bytes(memory);
-    let Ok(session) = read_session(&memory[0..used]) else {
-        return Err(0);
+    let Ok(session) = read_session(&parts.memory[..used]) else {
+        return Err(Refusal::BrokenLog(0));
     };
-    let mut at = JOURNAL_LEAST;
-    let mut count = 0;
-    while at < used {
-        let Ok(message) = read_message(&memory[at..used], session) else {
-            return Err(at);
+    parts.session = session;
+    while parts.used() < used {
+        let at = parts.used();
+        let Ok(message) = read_message(&parts.memory[at..used], session) else {
+            return Err(Refusal::BrokenLog(at));
         };
-        at = at + RECORD_HEAD + message.len();
-        ends[count] = at as u32;
-        count += 1;
+        let length = message.len();
+        parts.take_in(length)?;
     }
-    Ok((session, count))
+    Ok(())
 }
 
 impl Journal {
     /// An empty journal without a session in this memory.
     pub fn new(heap: Global, memory: Vec<u8>) -> Result<Journal, Unmade<Vec<u8>>>
-        ensures { MatchResult result (λ j. (makes (vec_len memory) ≡ true) × (journaled j.session j.memory.items j.ends.items j.count ≡ journal (vec_len memory) 0 [])) (λ u. (u.given ≡ memory) × Unmakable (vec_len memory) u.refusal) }
+        ensures { MatchResult result (λ j. (makes (vec_len memory) ≡ true) × (⟦<Journal as Log>⟧.view j ≡ journal (vec_len memory) 0 [])) (λ u. (u.given ≡ memory) × Unmakable (vec_len memory) u.refusal) }
     {
-        match index(heap, memory.len()) {
-            Ok(ends) => Ok(blank(memory, ends)),
-            Err(refusal) => Err(Unmade {
-                refusal,
-                given: memory,
-            }),
-        }
+        let (mut memory, ends) = with_index(heap, memory)?;
+        lay(&mut memory, 0, &session_record(0));
+        Ok(Journal {
+            parts: Parts {
+                memory,
+                ends,
+                session: 0,
+                count: 0,
+            },
+        })
     }
 
     /// The journal that the first `used` bytes of this memory hold.
     pub fn open(heap: Global, memory: Vec<u8>, used: usize) -> Result<Journal, Unmade<Vec<u8>>>
-        ensures cases { MatchResult result (λ j. Opened memory.items used (journaled j.session j.memory.items j.ends.items j.count)) (λ u. (u.given ≡ memory) × Unopened memory.items used u.refusal) }
-        ensures back { (s : ℕ) (ms : List (List ℕ)) → Savable s ms → opens (vec_len memory) used ≡ true → take used memory.items ≡ saved s ms → MatchResult result (λ j. journaled j.session j.memory.items j.ends.items j.count ≡ journal (vec_len memory) s ms) (λ u. u.refusal ≡ R.OutOfMemory) }
+        ensures cases { MatchResult result (λ j. Opened memory.items used (⟦<Journal as Log>⟧.view j)) (λ u. (u.given ≡ memory) × Unopened memory.items used u.refusal) }
+        ensures back { (s : ℕ) (ms : List (List ℕ)) → Savable s ms → opens (vec_len memory) used ≡ true → take used memory.items ≡ saved s ms → MatchResult result (λ j. ⟦<Journal as Log>⟧.view j ≡ journal (vec_len memory) s ms) (λ u. u.refusal ≡ R.OutOfMemory) }
     {
         if used > memory.len() {
             return Err(Unmade {
@@ -78,18 +88,18 @@ impl Journal {
                 given: memory,
             });
         }
-        let mut ends = match index(heap, memory.len()) {
-            Ok(ends) => ends,
-            Err(refusal) => return Err(Unmade {
-                refusal,
-                given: memory,
-            }),
+        let (memory, ends) = with_index(heap, memory)?;
+        let mut parts = Parts {
+            memory,
+            ends,
+            session: 0,
+            count: 0,
         };
-        match walk(&memory, used, &mut ends) {
-            Ok((session, count)) => Ok(filled(memory, ends, session, count, used)),
-            Err(place) => Err(Unmade {
-                refusal: Refusal::BrokenLog(place),
-                given: memory,
+        match walk(&mut parts, used) {
+            Ok(()) => Ok(Journal { parts }),
+            Err(refusal) => Err(Unmade {
+                refusal,
+                given: parts.memory,
             }),
         }
     }

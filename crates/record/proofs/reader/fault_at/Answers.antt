@@ -1,17 +1,24 @@
-use Rattle.std.proofs.Common.{get_or, sym, ap, ◌∙◌, arith}
+use Rattle.std.proofs.Common.{◌≡◌, List, ℕ, get_or, ◌-◌, length, take, drop, Ok, Err, Result, sym, refl, ap, ◌∙◌}
+use Rattle.std.specs.Borrow.{Bor}
+use Rattle.std.specs.Result.{result_err}
 use Rattle.std.proofs.lemmas.List.{take_rest}
-use Rattle.record.specs.Reading.{message_of, fault_in}
+use Rattle.record.specs.declared.records.RecordFault.{RecordFault}
+use Rattle.record.specs.Reading.{message_of, fault_in, held}
 use Rattle.record.proofs.Framed.{fault_later}
 use Rattle.record.proofs.reader.fault_at.Goals as goal
 
-pub returns-in-Ok-read_message : goal.returns-in-Ok-read_message
-returns-in-Ok-read_message c =
-    let b = c.args.bytes.now in
-    let p = c.args.place in
-    sym (fault_later b p c.if-place-eq0.false (omega arith) (omega arith) ∙ (ap (λ t. fault_in (message_of (get_or b 4 0) t)) (sym (take_rest b p)) ∙ ap fault_in (sym c.in-Ok-read_message.ensures)))
+fault_held : (r : Result (Bor (List ℕ)) RecordFault) → result_err r ≡ fault_in (held r)
+fault_held (Ok m) = refl
+fault_held (Err f) = refl
 
-pub returns-in-Err-read_message : goal.returns-in-Err-read_message
-returns-in-Err-read_message c =
+pub returns : goal.returns
+returns c =
     let b = c.args.bytes.now in
     let p = c.args.place in
-    sym (fault_later b p c.if-place-eq0.false (omega arith) (omega arith) ∙ (ap (λ t. fault_in (message_of (get_or b 4 0) t)) (sym (take_rest b p)) ∙ ap fault_in (sym c.in-Err-read_message.ensures)))
+    let session = c.in_ok-session.ensures.lookup.3 in
+    c.err-2.ensures.value
+    ∙ (fault_held c.read_message.result
+    ∙ (ap fault_in c.read_message.ensures
+    ∙ (ap (λ k. fault_in (message_of k (take (length b - p) (drop p b)))) (session.1 0)
+    ∙ (ap (λ t. fault_in (message_of (get_or b 4 0) t)) (take_rest b p)
+    ∙ sym (fault_later b p c.if-place-eq0.false session.0 c.if-place-bytes.false)))))

@@ -1,0 +1,46 @@
+use Rattle.std.proofs.Common.{◌+◌, ◌++◌, length, sym, refl, ◌∙◌, arith}
+use Rattle.std.proofs.lemmas.List.{length-append}
+use Rattle.memory.specs.Memory.{laid}
+use Rattle.memory.proofs.Laid.{take_laid, length_laid, laid_laid}
+use Rattle.pool.specs.Kept.{used}
+use Rattle.pool.proofs.Runs.{between_both}
+use Rattle.pool.proofs.Edges.{edge_more}
+use Rattle.pool.proofs.Keeping.{fit_kept, parts_more_kept, kept_more}
+use Rattle.pool.proofs.parts.Parts.append.Goals as goal
+
+pub returns-clause-memory : goal.returns-clause-memory
+returns-clause-memory g c =
+    let s = c.args.self.now in
+    let a = c.args.head in
+    let m = c.args.message.now in
+    let u = used g.row.BASE g.row.GAP s in
+    let fit = fit_kept g.row.BASE g.row.GAP s (length m) (sym c.would_take.ensures ∙ c.in_ok-would_take.was) in
+    let both = laid_laid s.memory.items a m u (u + g.row.GAP) (omega arith) (omega arith) in
+    cc
+
+pub returns-clause-used : goal.returns-clause-used
+returns-clause-used g c =
+    let s = c.args.self.now in
+    let n = length c.args.message.now in
+    let u = used g.row.BASE g.row.GAP s in
+    let fit = fit_kept g.row.BASE g.row.GAP s n (sym c.would_take.ensures ∙ c.in_ok-would_take.was) in
+    let more = edge_more g.row.BASE g.row.GAP s.ends.items s.count u n (u + g.row.GAP + n) fit.2 s.rising refl refl in
+    cc
+
+pub returns-clause-after : goal.returns-clause-after
+returns-clause-after g c =
+    let s = c.args.self.now in
+    let q = c.lay_in-2.new.self in
+    let a = c.args.head in
+    let m = c.args.message.now in
+    let u = used g.row.BASE g.row.GAP s in
+    let e = u + g.row.GAP + length m in
+    let ok = sym c.would_take.ensures ∙ c.in_ok-would_take.was in
+    let fit = fit_kept g.row.BASE g.row.GAP s (length m) ok in
+    let all = length-append a m in
+    let mem = laid s.memory.items u (a ++ m) in
+    let same = take_laid s.memory.items u (a ++ m) (omega arith) in
+    let put = between_both s.memory.items a m u (u + g.row.GAP) e (omega arith) refl fit.1 in
+    let more = parts_more_kept g.row.BASE g.row.GAP s mem m e ok refl same put in
+    let long = length_laid s.memory.items u (a ++ m) (omega arith) in
+    kept_more g.row.BASE g.row.GAP s q.session q.count q.memory.items q.ends.items mem m e (cc) (returns-clause-memory g c) long (cc) (cc) more

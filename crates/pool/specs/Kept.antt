@@ -1,0 +1,20 @@
+-- What the messages in one run of bytes mean.
+use Rattle.std.specs.Prelude.{ℕ, ◌+◌, ◌-◌, cond, length, take, Ok, Err, Result}
+use Rattle.fault.specs.declared.refusals.Refusal.{Refusal}
+use Rattle.fault.specs.declared.refusals.Refusal.TheVariants.{NoSuchMessage}
+use Rattle.message_log.specs.Meaning.{Meaning, taken}
+use Rattle.message_log.specs.Calls.{has}
+use Rattle.pool.specs.Parts.{edge, filed}
+use Rattle.pool.specs.declared.parts.Parts.{Parts}
+
+-- how far the bytes are used
+abbrev pub used : (base gap : ℕ) → Parts base gap → ℕ
+used base gap p = edge base p.ends.items p.count
+
+-- the size is what lies behind the base, and a place is an entry of the table
+abbrev pub kept : (base gap : ℕ) → Parts base gap → Meaning
+kept base gap p = filed p.session p.memory.items (edge base p.ends.items) gap (length p.memory.items - base) (length p.ends.items) p.count
+
+-- where message n begins with its gap: behind the base and the messages before it
+abbrev pub placed : ℕ → Meaning → ℕ → Result ℕ Refusal
+placed base l n = cond (has l n) (Ok (base + taken l.overhead (take (n - 1) l.messages))) (Err NoSuchMessage)

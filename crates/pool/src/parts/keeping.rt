@@ -1,0 +1,128 @@
+//! What is asked of such messages, and one message more.
+ghost use Rattle.std.specs.Prelude.{◌≡◌, ◌+◌, ◌≤◌, ◌++◌, Ok, length, vec_len, slice_set};
+ghost use Rattle.std.specs.List.{between};
+ghost use Rattle.memory.specs.Memory.{laid};
+ghost use Rattle.message_log.specs.Meaning.{count, begun, added};
+ghost use Rattle.message_log.specs.Calls.{Lent, takes, begins, settled};
+ghost use Rattle.pool.specs.Kept.{kept, used, placed};
+
+use super::Parts;
+use crate::bytes::edge_at;
+use fault::Refusal;
+use memory::lay;
+use message_log::Space;
+
+impl<const BASE: usize, const GAP: usize> Parts<BASE, GAP> {
+    /// How many messages there are.
+    pub fn count(&self) -> usize
+        ensures { result ≡ count (kept BASE GAP self.now) }
+    {
+        self.count
+    }
+
+    /// How far the bytes are used: to the end of the last message.
+    pub fn used(&self) -> usize
+        ensures { result ≡ used BASE GAP self.now }
+    {
+        edge_at(BASE, &self.ends, self.count)
+    }
+
+    /// Where message n begins with its gap.
+    pub fn place(&self, n: usize) -> Result<usize, Refusal>
+        ensures { result ≡ placed BASE (kept BASE GAP self.now) n }
+    {
+        if n == 0 || n > self.count {
+            return Err(Refusal::NoSuchMessage);
+        }
+        Ok(edge_at(BASE, &self.ends, n - 1))
+    }
+
+    /// Message n, where it lies.
+    pub fn message(&self, n: usize) -> Result<&[u8], Refusal>
+        ensures { Lent (kept BASE GAP self.now) n result }
+    {
+        let start = self.place(n)? + GAP;
+        let end = edge_at(BASE, &self.ends, n);
+        Ok(&self.memory[start..end])
+    }
+
+    /// Whether a message of so many bytes would be taken, and if not why.
+    pub fn would_take(&self, bytes: usize) -> Result<(), Refusal>
+        ensures { result ≡ takes (kept BASE GAP self.now) bytes }
+    {
+        let space = Space {
+            session: self.session,
+            room: self.memory.len() - self.used(),
+            places: self.ends.len() - self.count,
+            overhead: GAP,
+        };
+        space.judge(bytes)
+    }
+
+    /// Lays a piece over the bytes from `at` on.
+    fn lay_in(&mut self, at: usize, piece: &[u8])
+        requires { at + length piece.now ≤ vec_len self.old.memory }
+        ensures memory { self.new.memory.items ≡ laid self.old.memory.items at piece.now }
+        ensures ends { self.new.ends ≡ self.old.ends }
+        ensures count { self.new.count ≡ self.old.count }
+        ensures session { self.new.session ≡ self.old.session }
+    {
+        lay(&mut self.memory, at, piece);
+    }
+
+    /// Sets the session, empties the list, and lays these bytes before it.
+    pub fn begin(&mut self, session: u8, front: [u8; BASE]) -> Result<(), Refusal>
+        ensures value { result ≡ begins session }
+        ensures after { kept BASE GAP self.new ≡ settled result (begun (kept BASE GAP self.old) session) (kept BASE GAP self.old) }
+        ensures memory { self.new.memory.items ≡ settled result (laid self.old.memory.items 0 front.entry) self.old.memory.items }
+        ensures used { used BASE GAP self.new ≡ settled result BASE (used BASE GAP self.old) }
+    {
+        if session == 0 {
+            return Err(Refusal::SessionZero);
+        }
+        self.lay_in(0, &front);
+        self.session = session;
+        self.count = 0;
+        Ok(())
+    }
+
+    /// Notes where a message of so many bytes ends that lies behind the last one and its own gap.
+    fn note(&mut self, bytes: usize)
+        requires { takes (kept BASE GAP self.old) bytes ≡ Ok tt }
+        ensures ends { self.new.ends.items ≡ slice_set self.old.ends.items self.old.count (used BASE GAP self.old + GAP + bytes) }
+        ensures count { self.new.count ≡ self.old.count + 1 }
+        ensures memory { self.new.memory ≡ self.old.memory }
+        ensures session { self.new.session ≡ self.old.session }
+    {
+        let end = self.used() + GAP + bytes;
+        self.ends[self.count] = end as u32;
+        self.count += 1;
+    }
+
+    /// Takes in the message of so many bytes that lies behind the last one and its own gap.
+    pub fn take_in(&mut self, bytes: usize) -> Result<(), Refusal>
+        ensures value { result ≡ takes (kept BASE GAP self.old) bytes }
+        ensures after { let start = used BASE GAP self.old + GAP in kept BASE GAP self.new ≡ settled result (added (kept BASE GAP self.old) (between start (start + bytes) self.old.memory.items)) (kept BASE GAP self.old) }
+        ensures memory { self.new.memory ≡ self.old.memory }
+        ensures used { used BASE GAP self.new ≡ settled result (used BASE GAP self.old + GAP + bytes) (used BASE GAP self.old) }
+    {
+        self.would_take(bytes)?;
+        self.note(bytes);
+        Ok(())
+    }
+
+    /// Adds a message at the end, with these bytes in its gap.
+    pub fn append(&mut self, head: [u8; GAP], message: &[u8]) -> Result<(), Refusal>
+        ensures value { result ≡ takes (kept BASE GAP self.old) (length message.now) }
+        ensures after { kept BASE GAP self.new ≡ settled result (added (kept BASE GAP self.old) message.now) (kept BASE GAP self.old) }
+        ensures memory { self.new.memory.items ≡ settled result (laid self.old.memory.items (used BASE GAP self.old) (head.entry ++ message.now)) self.old.memory.items }
+        ensures used { used BASE GAP self.new ≡ settled result (used BASE GAP self.old + GAP + length message.now) (used BASE GAP self.old) }
+    {
+        self.would_take(message.len())?;
+        let at = self.used();
+        self.note(message.len());
+        self.lay_in(at, &head);
+        self.lay_in(at + GAP, message);
+        Ok(())
+    }
+}
