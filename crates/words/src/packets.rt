@@ -1,4 +1,7 @@
 //! One packet in words, and bytes that are no packet.
+//!
+//! What makes a row is given the heap beside the output, as std's calls are: a struct of the two would be taken
+//! apart again at each call.
 use crate::texts::Text;
 use dump::{ROW, row};
 use packet::{Login, Packet, Reader};
@@ -40,8 +43,8 @@ pub fn show_packet<W: Write>(
             show_message(heap, out, message)
         }
         Packet::RetransmissionRequest { start, end } => writeln!(out, ": start {start}, end {end}"),
-        Packet::LogoutRequest { reason, text } => { show_leaving(out, reason.byte(), reason, text) }
-        Packet::GoodBye { reason, text } => { show_leaving(out, reason.byte(), reason, text) }
+        Packet::LogoutRequest { reason, text } => show_leaving(out, reason.byte(), reason, text),
+        Packet::GoodBye { reason, text } => show_leaving(out, reason.byte(), reason, text),
         Packet::Test { text } => {
             let text = Text(text);
             writeln!(out, ": text {text}")
