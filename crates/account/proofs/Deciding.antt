@@ -8,7 +8,7 @@ use Rattle.layout.specs.declared.statuses.Status.TheVariants.{Accepted}
 use Rattle.account.specs.declared.rows.Row.{Row}
 use Rattle.account.specs.Rows.{found, row_at, marking}
 use Rattle.account.specs.Logins.{Asked, Check, spoken_version, checks, first_failing, status_for}
-use Rattle.account.specs.Laws.{AllPass, FirstFails, check_at, checks_of, TellsTheFirst, Acceptable, AcceptsJustThese, LetIn, TurnedAway, LetsInOne}
+use Rattle.account.specs.Laws.{AllPass, FirstFails, check_at, checks_of, TellsTheFirst, Acceptable, AcceptsJustThese, TurnedAway, LetsInOne}
 use Rattle.account.proofs.Only.{fits, finds_the_same}
 use Rattle.account.proofs.Marking.{found_as_before, marks_one_row}
 
@@ -53,7 +53,7 @@ right_by : (rows : List Row) (session highest : ℕ) (asked : Asked) (i : ℕ) �
 right_by rows session highest asked i e each = record {
   version = (bytes_eq-Decides asked.version spoken_version).0 (each 0 (omega arith));
   row = fits rows asked.user asked.computer i e;
-  protocol = (bytes_eq-Decides (row_at rows i).protocol asked.protocol).0 (each 2 (omega arith));
+  protocol = (bytes_eq-Decides (row_at rows i).account.protocol asked.protocol).0 (each 2 (omega arith));
   unmarked = not-true (row_at rows i).marked (each 3 (omega arith));
   asks = elim (or_cases (eqb asked.session 0) (eqb asked.session session) (each 4 (omega arith))) [ inl z ↦ inl (eqb-true _ _ z) | inr z ↦ inr (eqb-true _ _ z) ];
   reaches = leb-true _ _ (each 5 (omega arith));
@@ -78,7 +78,7 @@ accepted_by rows session highest asked i a =
       (
         refl,
         (
-          (bytes_eq-Decides (row_at rows i).protocol asked.protocol).1 a.protocol,
+          (bytes_eq-Decides (row_at rows i).account.protocol asked.protocol).1 a.protocol,
           (
             not_from_false (row_at rows i).marked a.unmarked,
             (
@@ -98,12 +98,6 @@ accepts_just_these rows session highest asked single = record {
   only = λ accepted. let k = rows_known rows session highest asked (found rows asked.user asked.computer) refl (all_pass rows session highest asked accepted) in (k.0, right rows session highest asked accepted k.0 k.1);
   each = λ i a. ap (λ (o : Option ℕ). first_failing (checks rows o session highest asked)) (finds_the_same rows asked.user asked.computer (Some i) single a.row) ∙ accepted_by rows session highest asked i a;
 }
-
-pub let_in : (before after : List Row) (session highest : ℕ) (asked : Asked) (status : Status) (o : Option ℕ) (i : ℕ) → status ≡ status_for before session highest asked → status ≡ Accepted → o ≡ found before asked.user asked.computer → o ≡ Some i → after ≡ marking before i true → LetIn before after session highest asked i
-let_in before after session highest asked status o i told is row some marks =
-    let accepted = sym told ∙ is in
-    let here = sym row ∙ some in
-    record { accepted = accepted; row = here; right = right before session highest asked accepted i here; marks = marks }
 
 pub turned_away : (rows : List Row) (session highest : ℕ) (asked : Asked) (status : Status) → status ≡ status_for rows session highest asked → (status ≡ Accepted → ⊥) → TurnedAway rows rows session highest asked status
 turned_away rows session highest asked status why refused = record {

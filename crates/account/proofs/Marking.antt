@@ -1,13 +1,10 @@
 -- Rows that are marked, and a row that joins.
-use Rattle.std.proofs.Common.{◌≡◌, ℕ, zero, suc, ◌+◌, ◌<◌, ◌≤◌, Bool, false, cond, ◌≢◌, List, [], ◌∷◌, length, take, set, Some, None, Ok, Err, Result, sym, refl, ap, ◌∙◌, inl, inr, arith}
-use Rattle.std.proofs.lemmas.List.{get_or-take, get_or-set_same, get_or-set_other, set_past, length-set, length-take, length-take-le}
-use Rattle.std.proofs.lemmas.Bool.{cases_lt, cond-true, cond-false, le-ltb}
-use Rattle.fault.specs.declared.refusals.Refusal.{Refusal}
-use Rattle.fault.specs.declared.refusals.Refusal.TheVariants.{AccountTaken}
-use Rattle.account.specs.declared.fields.Account.{Account}
+use Rattle.std.proofs.Common.{◌≡◌, ℕ, zero, suc, ◌+◌, ◌<◌, ◌≤◌, Bool, false, cond, ◌≢◌, List, [], ◌∷◌, length, take, set, Some, None, sym, refl, ap, ◌∙◌, inl, inr, arith}
+use Rattle.std.proofs.lemmas.List.{get_or-take, get_or-set_same, get_or-set_other, length-set, length-take-le}
+use Rattle.std.proofs.lemmas.Bool.{cases_lt}
 use Rattle.account.specs.declared.rows.Row.{Row}
 use Rattle.account.specs.Rows.{matches, found, found_from, row_at, no_row, with_mark, marking}
-use Rattle.account.specs.Table.{in_use, Single, placed}
+use Rattle.account.specs.Table.{in_use, Single}
 use Rattle.account.specs.Laws.{MarksOneRow, FoundAsBefore}
 use Rattle.account.proofs.Only.{missed}
 
@@ -21,9 +18,6 @@ pub mark_in_use : (rows : List Row) (n i : ℕ) (mark : Bool) → i < n → in_u
 mark_in_use rows n i mark lt =
     take_of_set n rows i (with_mark (row_at rows i) mark) ∙ ap (λ (row : Row). set (take n rows) i (with_mark row mark)) (sym (get_or-take n rows i no_row lt))
 
-pub mark_past : (rows : List Row) (n i : ℕ) (mark : Bool) → n ≤ i → in_use rows n ≡ marking (in_use rows n) i mark
-mark_past rows n i mark le = sym (set_past (take n rows) i (with_mark (row_at (take n rows) i) mark) (omega (arith, length-take n rows)))
-
 -- the rows in use are as single as the table
 pub in_use_single : (rows : List Row) (n : ℕ) → n ≤ length rows → Single rows n → Single (in_use rows n) (length (in_use rows n))
 in_use_single rows n within single i j (lt, below) =
@@ -31,27 +25,21 @@ in_use_single rows n within single i j (lt, below) =
     rw (get_or-take n rows i no_row (omega arith), get_or-take n rows j no_row (omega arith)) (single i j (lt, omega arith))
 
 -- a row that matches none of those in use can stand behind them
-pub joins_single : (rows : List Row) (n : ℕ) (row : Row) → n < length rows → Single rows n → found (in_use rows n) row.user row.computer ≡ None → Single (set rows n row) (n + 1)
+pub joins_single : (rows : List Row) (n : ℕ) (row : Row) → n < length rows → Single rows n → found (in_use rows n) row.account.user row.account.computer ≡ None → Single (set rows n row) (n + 1)
 joins_single rows n row within single none i j (lt, below) =
     elim (cases_lt j n) [ inl before ↦ early before | inr at ↦ last (omega arith) ]
   where
     apart : (k : ℕ) → k < n → row_at (set rows n row) k ≡ row_at rows k
     apart k h = let ne : k ≢ n = omega arith in get_or-set_other rows n k row no_row ne
 
-    early : j < n → matches (row_at (set rows n row) i) (row_at (set rows n row) j).user (row_at (set rows n row) j).computer ≡ false
+    early : j < n → matches (row_at (set rows n row) i) (row_at (set rows n row) j).account.user (row_at (set rows n row) j).account.computer ≡ false
     early h = rw (apart i (omega arith), apart j h) (single i j (lt, h))
 
-    last : j ≡ n → matches (row_at (set rows n row) i) (row_at (set rows n row) j).user (row_at (set rows n row) j).computer ≡ false
+    last : j ≡ n → matches (row_at (set rows n row) i) (row_at (set rows n row) j).account.user (row_at (set rows n row) j).account.computer ≡ false
     last e =
         let new : row_at (set rows n row) j ≡ row = ap (row_at (set rows n row)) e ∙ get_or-set_same rows n row no_row within in
         let old : row_at (set rows n row) i ≡ row_at (in_use rows n) i = apart i (omega arith) ∙ sym (get_or-take n rows i no_row (omega arith)) in
-        rw (old, new) (missed (in_use rows n) row.user row.computer none i (omega (arith, length-take-le n rows (omega arith))))
-
--- a table whose rows are all in use takes no account
-pub full_taken : (rows : List Row) (n : ℕ) (r : Result Account Refusal) (account : Account) → n ≡ 8 → length rows ≡ 8 → r ≡ Ok account → placed (in_use rows n) r ≡ Err AccountTaken
-full_taken rows n r account e eight ok =
-    ap (placed (in_use rows n)) ok
-    ∙ cond-true _ _ _ (cond-false _ _ _ (le-ltb (length (in_use rows n)) 8 (omega (arith, length-take-le n rows (omega arith)))))
+        rw (old, new) (missed (in_use rows n) row.account.user row.account.computer none i (omega (arith, length-take-le n rows (omega arith))))
 
 pub marks_one_row : MarksOneRow
 marks_one_row rows i mark = record {

@@ -1,6 +1,8 @@
 -- What a lookup finds, and that it is the only row that matches.
-use Rattle.std.proofs.Common.{◌≡◌, ℕ, zero, suc, ◌+◌, ◌<◌, Bool, true, false, ◌&&◌, eqb, List, [], ◌∷◌, map, length, Some, None, Decides, Option, sym, refl, ap, ◌∙◌, subst, inl, inr, arith}
+use Rattle.std.proofs.Common.{◌≡◌, ℕ, zero, suc, ◌+◌, ◌<◌, Bool, true, false, ◌&&◌, ◌↔◌, IsTrue, eqb, List, [], ◌∷◌, map, length, Some, None, Decides, Option, sym, refl, ap, ◌∙◌, subst, inl, inr, arith}
+use Rattle.std.specs.Char.{to_ascii_lowercase}
 use Rattle.std.specs.Str.{bytes_eq}
+use Rattle.std.proofs.lemmas.Bool.Decides.{nat_tests}
 use Rattle.std.proofs.lemmas.Slice.Eq.{bytes_eq-Decides}
 use Rattle.std.proofs.lemmas.Bool.{cases_Bool, cases_order, cond-true, cond-false, and_parts, and_from, eqb-true, eq-eqb, both_ways}
 use Rattle.account.specs.declared.rows.Row.{Row}
@@ -20,10 +22,10 @@ alike_both (x ∷ a) (y ∷ b) (z ∷ u) e f =
     let q = and_parts (eqb (folded y) (folded z)) (alike b u) f in
     and_from _ _ (eq-eqb _ _ (eqb-true _ _ p.0 ∙ sym (eqb-true _ _ q.0))) (alike_both a b u p.1 q.1)
 
-pub matches_both : (r s : Row) (user computer : List ℕ) → matches r user computer ≡ true → matches s user computer ≡ true → matches r s.user s.computer ≡ true
+pub matches_both : (r s : Row) (user computer : List ℕ) → matches r user computer ≡ true → matches s user computer ≡ true → matches r s.account.user s.account.computer ≡ true
 matches_both r s user computer e f =
-    let p = and_parts (alike r.user user) (alike r.computer computer) e in
-    let q = and_parts (alike s.user user) (alike s.computer computer) f in
+    let p = and_parts (alike r.account.user user) (alike r.account.computer computer) e in
+    let q = and_parts (alike s.account.user user) (alike s.account.computer computer) f in
     and_from _ _ (alike_both _ _ user p.0 q.0) (alike_both _ _ computer p.1 q.1)
 
 found_fits : (n : ℕ) (rows : List Row) (user computer : List ℕ) (i : ℕ) → found_from n rows user computer ≡ Some i → (j : ℕ) × (i ≡ n + j) × Fits rows user computer j
@@ -86,13 +88,31 @@ alike_folded (x ∷ a) (y ∷ b) = ap (λ (t : Bool). eqb (folded x) (folded y) 
 pub folds : Folds
 folds a b = subst (λ (t : Bool). Decides t (map folded a ≡ map folded b)) (sym (alike_folded a b)) (bytes_eq-Decides (map folded a) (map folded b))
 
+-- the library's word for it
+lowered : (b : ℕ) → to_ascii_lowercase b ≡ folded b
+lowered b = grind (arith, nat_tests)
+
+all_lowered : (a : List ℕ) → map to_ascii_lowercase a ≡ map folded a
+all_lowered [] = refl
+all_lowered (x ∷ xs) = cc (lowered x, all_lowered xs)
+
+-- tests that pass together are the same
+agree : (s t : Bool) → (s ≡ true → t ≡ true) → (t ≡ true → s ≡ true) → s ≡ t
+agree true t f g = sym (f refl)
+agree false true f g = g refl
+agree false false f g = refl
+
+pub alike_as_lowered : (a b : List ℕ) (r : Bool) → IsTrue r ↔ (map to_ascii_lowercase a ≡ map to_ascii_lowercase b) → r ≡ alike a b
+alike_as_lowered a b r d =
+    agree r (alike a b) (λ t. (folds a b).1 (sym (all_lowered a) ∙ d.0 t ∙ all_lowered b)) (λ t. d.1 (all_lowered a ∙ (folds a b).0 t ∙ sym (all_lowered b)))
+
 alike_same : (a u v : List ℕ) → map folded u ≡ map folded v → alike a u ≡ alike a v
 alike_same a u v e = alike_folded a u ∙ ap (bytes_eq (map folded a)) e ∙ sym (alike_folded a v)
 
 found_same : (n : ℕ) (rows : List Row) (u v c d : List ℕ) → map folded u ≡ map folded v → map folded c ≡ map folded d → found_from n rows u c ≡ found_from n rows v d
 found_same n [] u v c d e f = refl
 found_same n (row ∷ rows) u v c d e f =
-    rw (alike_same row.user u v e, alike_same row.computer c d f, found_same (n + 1) rows u v c d e f)
+    rw (alike_same row.account.user u v e, alike_same row.account.computer c d f, found_same (n + 1) rows u v c d e f)
 
 pub finds_by_folded : FindsByFolded
 finds_by_folded rows u v c d e f = found_same 0 rows u v c d e f

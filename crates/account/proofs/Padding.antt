@@ -1,30 +1,10 @@
--- A text that is laid into a field of spaces is padded.
-use Rattle.std.proofs.Common.{◌≡◌, ℕ, zero, suc, ◌-◌, ◌≤◌, Bool, true, false, cond, ◌&&◌, leb, List, [], ◌∷◌, ◌++◌, length, replicate, Ok, Err, Decides, Result, sym, refl, ap, ◌∙◌, arith}
-use Rattle.std.proofs.lemmas.List.{drop-replicate, length-replicate, length-append}
+-- Which texts may stand in a field, and that no two become the same.
+use Rattle.std.proofs.Common.{◌≡◌, ℕ, zero, suc, ◌-◌, ◌≤◌, true, ◌&&◌, leb, List, [], ◌∷◌, ◌++◌, length, replicate, Decides, refl, ap, ◌∙◌, arith}
+use Rattle.std.proofs.lemmas.List.{length-replicate, length-append}
 use Rattle.std.proofs.ByRecursion.{Decides-by_and}
-use Rattle.std.proofs.lemmas.Bool.{cond-true, and_from, and_parts, leb-true, le-leb}
-use Rattle.fault.specs.declared.refusals.Refusal.{Refusal}
-use Rattle.fault.specs.declared.refusals.Refusal.TheVariants.{BadAccountField}
-use Rattle.account.specs.declared.fields.Account.{Account}
+use Rattle.std.proofs.lemmas.Bool.{and_from, and_parts, leb-true, le-leb}
 use Rattle.account.specs.Laws.{IsField, JudgesFields, FieldsAreToldApart}
-use Rattle.account.specs.Fields.{visible, all_visible, good, judged, laid, padded, padded_fields, account_of}
-
-pub granted_good : (n : ℕ) (text : List ℕ) (r : Result Unit Refusal) (u : Unit) → r ≡ judged n text → r ≡ Ok u → good n text ≡ true
-granted_good n text r u e f = decided (good n text) (sym e ∙ f)
-  where
-    decided : (b : Bool) → cond b (Ok tt) (Err BadAccountField) ≡ Ok u → b ≡ true
-    decided true h = refl
-    decided false h = let z : ◌≡◌ {A = ℕ} 0 1 = cc in absurd (omega arith)
-
-pub laid_padded : (n : ℕ) (text : List ℕ) → good n text ≡ true → laid (replicate n 0x20) text ≡ padded n text
-laid_padded n text e =
-    let good_too : good (length (replicate n 0x20)) text ≡ true = rw length-replicate e in
-    cond-true _ _ _ good_too ∙ ap (λ (z : List ℕ). text ++ z) (drop-replicate (length text) n 0x20)
-
-pub account_good : (u c p uf cf pf : List ℕ) → good 5 u ≡ true → good 8 c ≡ true → good 8 p ≡ true → uf ≡ padded 5 u → cf ≡ padded 8 c → pf ≡ padded 8 p → Ok (record { user = uf; computer = cf; protocol = pf }) ≡ account_of u c p
-account_good u c p uf cf pf gu gc gp eu ec ep =
-    let same : ◌≡◌ {A = Account} (record { user = uf; computer = cf; protocol = pf }) (padded_fields u c p) = cc in
-    ap Ok same ∙ sym (cond-true _ _ _ (and_from _ _ gu (and_from _ _ gc gp)))
+use Rattle.account.specs.Fields.{visible, all_visible, good}
 
 visible_decides : (b : ℕ) → Decides (visible b) ((0x21 ≤ b) × (b ≤ 0x7E))
 visible_decides b = (

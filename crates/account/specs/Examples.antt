@@ -10,8 +10,8 @@ use Rattle.account.specs.Logins.{Asked, status_for, spoken_version}
 -- a table of two rows, the second of which is marked
 abbrev pub table : List Row
 table =
-    record { user = codes "mm01 "; computer = codes "DESK1   "; protocol = codes "FILL1.0 "; marked = false }
-    ∷ record { user = codes "mm02 "; computer = codes "DESK1   "; protocol = codes "FILL1.0 "; marked = true }
+    record { account = record { user = codes "mm01 "; computer = codes "DESK1   "; protocol = codes "FILL1.0 " }; marked = false }
+    ∷ record { account = record { user = codes "mm02 "; computer = codes "DESK1   "; protocol = codes "FILL1.0 " }; marked = true }
     ∷ []
 
 -- a login by a row of the table

@@ -1,5 +1,6 @@
 -- The fields of an account: which are allowed, and how they are padded.
-use Rattle.std.specs.Prelude.{ℕ, ◌-◌, Bool, true, cond, ◌&&◌, List, [], ◌∷◌, ◌++◌, length, drop, replicate, Ok, Err, Result, nat_le}
+use Rattle.std.specs.Prelude.{ℕ, ◌-◌, Bool, cond, ◌&&◌, List, ◌++◌, length, drop, replicate, Ok, Err, Result, nat_le}
+use Rattle.std.specs.List.{list_all}
 use Rattle.fault.specs.declared.refusals.Refusal.{Refusal}
 use Rattle.fault.specs.declared.refusals.Refusal.TheVariants.{BadAccountField}
 use Rattle.account.specs.declared.fields.Account.{Account}
@@ -9,8 +10,7 @@ abbrev pub visible : ℕ → Bool
 visible b = nat_le 0x21 b && nat_le b 0x7E
 
 abbrev pub all_visible : List ℕ → Bool
-all_visible [] = true
-all_visible (b ∷ bs) = visible b && all_visible bs
+all_visible bs = list_all visible bs
 
 -- a field is not empty, not wider than its width, and visible
 abbrev pub good : ℕ → List ℕ → Bool
@@ -26,6 +26,10 @@ judged width text = cond (good width text) (Ok tt) (Err BadAccountField)
 
 abbrev pub laid : List ℕ → List ℕ → List ℕ
 laid field text = cond (good (length field) text) (text ++ drop (length text) field) field
+
+-- a text that is padded to a width, or the refusal
+abbrev pub field_of : ℕ → List ℕ → Result (List ℕ) Refusal
+field_of width text = cond (good width text) (Ok (padded width text)) (Err BadAccountField)
 
 -- the three fields of an account
 abbrev pub good_fields : List ℕ → List ℕ → List ℕ → Bool

@@ -75,7 +75,7 @@ TellsTheFirst = (rows : List Row) (session highest : ℕ) (asked : Asked) →
 pub record Acceptable (rows : List Row) (session highest : ℕ) (asked : Asked) (i : ℕ) : Type 0 where
   pub version : asked.version ≡ spoken_version
   pub row : Fits rows asked.user asked.computer i
-  pub protocol : (row_at rows i).protocol ≡ asked.protocol
+  pub protocol : (row_at rows i).account.protocol ≡ asked.protocol
   pub unmarked : (row_at rows i).marked ≡ false
   pub asks : (asked.session ≡ 0) ⊎ (asked.session ≡ session)
   pub reaches : asked.number ≤ highest + 1

@@ -36,7 +36,7 @@ abbrev pub checks : List Row → Option ℕ → ℕ → ℕ → Asked → List C
 checks rows row session highest asked =
     record { passes = bytes_eq asked.version spoken_version; status = WrongVersion }
     ∷ record { passes = of_row row (λ i. true); status = UnknownUser }
-    ∷ record { passes = of_row row (λ i. bytes_eq (row_at rows i).protocol asked.protocol); status = WrongProtocol }
+    ∷ record { passes = of_row row (λ i. bytes_eq (row_at rows i).account.protocol asked.protocol); status = WrongProtocol }
     ∷ record { passes = of_row row (λ i. not (row_at rows i).marked); status = AlreadyLoggedIn }
     ∷ record { passes = asked.session == 0 || (asked.session == session); status = SessionUnavailable }
     ∷ record { passes = nat_le asked.number (highest + 1); status = InvalidNumber }

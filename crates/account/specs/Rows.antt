@@ -1,5 +1,6 @@
 -- The rows of the account table: how one is found, and how one is marked.
-use Rattle.std.specs.Prelude.{ℕ, ◌+◌, Bool, true, false, cond, ◌&&◌, List, [], ◌∷◌, Some, None, Option, ◌==◌, nat_le, slice_index_or, slice_set}
+use Rattle.std.specs.Prelude.{ℕ, ◌+◌, Bool, true, false, cond, ◌&&◌, List, [], ◌∷◌, Option, ◌==◌, nat_le, slice_index_or, slice_set}
+use Rattle.std.specs.List.{position_from}
 use Rattle.account.specs.declared.rows.Row.{Row}
 
 -- A to Z become a to z, and every other byte stays
@@ -15,25 +16,24 @@ alike (x ∷ xs) (y ∷ ys) = folded x == folded y && alike xs ys
 
 -- a row is the one of a user and a computer
 abbrev pub matches : Row → List ℕ → List ℕ → Bool
-matches row user computer = alike row.user user && alike row.computer computer
+matches row user computer = alike row.account.user user && alike row.account.computer computer
 
 -- the first row that matches, counted from n
 abbrev pub found_from : ℕ → List Row → List ℕ → List ℕ → Option ℕ
-found_from n [] user computer = None
-found_from n (row ∷ rows) user computer = cond (matches row user computer) (Some n) (found_from (n + 1) rows user computer)
+found_from n rows user computer = position_from (λ (row : Row). matches row user computer) n rows
 
 abbrev pub found : List Row → List ℕ → List ℕ → Option ℕ
 found rows user computer = found_from 0 rows user computer
 
 -- what stands for a row that is not there
 abbrev pub no_row : Row
-no_row = record { user = []; computer = []; protocol = []; marked = false }
+no_row = record { account = record { user = []; computer = []; protocol = [] }; marked = false }
 
 abbrev pub row_at : List Row → ℕ → Row
 row_at rows i = slice_index_or rows i no_row
 
 abbrev pub with_mark : Row → Bool → Row
-with_mark row mark = record { user = row.user; computer = row.computer; protocol = row.protocol; marked = mark }
+with_mark row mark = record { account = row.account; marked = mark }
 
 -- the rows with the mark of row i set or taken away; no other row changes
 abbrev pub marking : List Row → ℕ → Bool → List Row

@@ -7,17 +7,22 @@ use Rattle.account.specs.declared.rows.Row.{Row}
 use Rattle.account.specs.Rows.{matches, found, row_at}
 use Rattle.account.specs.Fields.{account_of}
 
--- a table means the rows in use: the first so many of its eight
+-- a table means the rows in use, and those that are free
+pub record Table : Type 0 where
+  pub rows : List Row
+  pub free : List Row
+
+-- the rows in use are the first so many of its eight
 abbrev pub in_use : List Row → ℕ → List Row
 in_use rows count = take count rows
 
 -- a user and a computer ID stand in one row at most: of the first so many rows, none matches a later one
 abbrev pub Single : List Row → ℕ → Type 0
-Single rows count = (i j : ℕ) → (i < j) × (j < count) → matches (row_at rows i) (row_at rows j).user (row_at rows j).computer ≡ false
+Single rows count = (i j : ℕ) → (i < j) × (j < count) → matches (row_at rows i) (row_at rows j).account.user (row_at rows j).account.computer ≡ false
 
 -- the row of an account that nobody is logged in by
 abbrev pub fresh : Account → Row
-fresh account = record { user = account.user; computer = account.computer; protocol = account.protocol; marked = false }
+fresh account = record { account = account; marked = false }
 
 -- whether there is no place for an account: eight rows are in use, or one that matches
 abbrev pub taken : List Row → Account → Bool

@@ -1,6 +1,6 @@
 //! The fields of an account.
 ghost use Rattle.std.specs.Prelude.{◌≡◌, length};
-ghost use Rattle.account.specs.Fields.{visible, all_visible, good, judged, laid, account_of};
+ghost use Rattle.account.specs.Fields.{all_visible, good, judged, laid, field_of, account_of};
 
 use fault::Refusal;
 
@@ -21,16 +21,22 @@ impl Account {
     pub fn new(user: &[u8], computer: &[u8], protocol: &[u8]) -> Result<Account, Refusal>
         ensures { result ≡ account_of user.now computer.now protocol.now }
     {
-        let mut account = Account {
-            user: [b' '; 5],
-            computer: [b' '; 8],
-            protocol: [b' '; 8],
-        };
-        lay(&mut account.user, user)?;
-        lay(&mut account.computer, computer)?;
-        lay(&mut account.protocol, protocol)?;
-        Ok(account)
+        Ok(Account {
+            user: padded(user)?,
+            computer: padded(computer)?,
+            protocol: padded(protocol)?,
+        })
     }
+}
+
+/// A text that is padded with spaces on the right, up to the width of its field. Refuses by `BadAccountField` a
+/// text that may not stand there.
+pub fn padded<const WIDTH: usize>(text: &[u8]) -> Result<[u8; WIDTH], Refusal>
+    ensures { result ≡ field_of WIDTH text.now }
+{
+    let mut field = [b' '; WIDTH];
+    lay(&mut field, text)?;
+    Ok(field)
 }
 
 /// Lays a text at the front of a field. Refuses by `BadAccountField` a text that may not stand there: an empty
@@ -50,30 +56,12 @@ pub fn lay(field: &mut [u8], text: &[u8]) -> Result<(), Refusal>
 fn is_good(text: &[u8], width: usize) -> bool
     ensures { result ≡ good width text.now }
 {
-    if text.is_empty() {
-        return false;
-    }
-    if text.len() > width {
-        return false;
-    }
-    all_visible(text)
+    !text.is_empty() && text.len() <= width && all_visible(text)
 }
 
-/// Whether every byte is visible.
+/// Whether every byte is from `!` to `~`.
 fn all_visible(text: &[u8]) -> bool
     ensures { result ≡ all_visible text.now }
 {
-    for i in 0..text.len() {
-        if !is_visible(text[i]) {
-            return false;
-        }
-    }
-    true
-}
-
-/// Whether a byte is from `!` to `~`.
-fn is_visible(byte: u8) -> bool
-    ensures { result ≡ visible byte }
-{
-    byte >= b'!' && byte <= b'~'
+    text.iter().all(u8::is_ascii_graphic)
 }

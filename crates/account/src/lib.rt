@@ -8,7 +8,7 @@ mod lookups;
 pub mod rows;
 pub mod table;
 
-pub use fields::{Account, lay};
+pub use fields::{Account, lay, padded};
 pub use logins::SPOKEN_VERSION;
 pub use rows::Row;
 pub use table::Accounts;

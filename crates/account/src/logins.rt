@@ -2,10 +2,8 @@
 ghost use Rattle.std.specs.Prelude.{◌≡◌};
 ghost use Rattle.account.specs.Logins.{status_for};
 ghost use Rattle.account.specs.Requests.{asked};
-ghost use Rattle.account.specs.Table.{in_use};
 ghost use Rattle.account.specs.Laws.{Admits};
 
-use crate::lookups::same;
 use crate::table::Accounts;
 use layout::Status;
 use packet::Login;
@@ -17,13 +15,14 @@ impl Accounts {
     /// What a login is answered by a hub whose log has this session and highest number: the status of the first
     /// check that it fails.
     pub fn decide(&self, login: Login<'_>, session: u8, highest: u64) -> Status
-        ensures { result ≡ status_for (in_use self.now.rows self.now.count) session highest (asked login.entry) }
+        ensures { result ≡ status_for self.now.rows session highest (asked login.entry) }
     {
         let rows = self.rows();
         match self.lookup(login.user, login.computer) {
-            _ if !same(login.version, &SPOKEN_VERSION) => Status::WrongVersion,
+            _ if login.version != SPOKEN_VERSION.as_slice() => Status::WrongVersion,
             None => Status::UnknownUser,
-            Some(row) if !same(&rows[row].protocol, login.protocol) => Status::WrongProtocol,
+            Some(row) if rows[row].account.protocol.as_slice() != login.protocol =>
+                Status::WrongProtocol,
             Some(row) if rows[row].marked => Status::AlreadyLoggedIn,
             Some(_) if login.session != 0 && login.session != session => Status::SessionUnavailable,
             Some(_) if login.number > highest.saturating_add(1) => Status::InvalidNumber,
@@ -34,7 +33,7 @@ impl Accounts {
     /// Decides a login and, where it is accepted, marks its row and answers the row's place. Otherwise answers
     /// the status, which is never `Accepted`, and changes nothing.
     pub fn admit(&mut self, login: Login<'_>, session: u8, highest: u64) -> Result<usize, Status>
-        ensures { Admits (in_use self.old.rows self.old.count) (in_use self.new.rows self.new.count) session highest (asked login.entry) result }
+        ensures { Admits self.old.rows self.new.rows session highest (asked login.entry) result }
     {
         match (
             self.decide(login, session, highest),

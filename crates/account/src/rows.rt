@@ -1,14 +1,11 @@
 //! Rows of the account table.
 
-/// A row of the account table. The three texts are padded with spaces on the right.
+use crate::fields::Account;
+
+/// A row of the account table.
 #[derive(Clone, Copy)]
 pub struct Row {
-    /// The user name.
-    pub user: [u8; 5],
-    /// The computer ID.
-    pub computer: [u8; 8],
-    /// The application protocol.
-    pub protocol: [u8; 8],
+    pub account: Account,
     /// Whether a login by this row is being answered or served.
     pub marked: bool,
 }

@@ -1,13 +1,14 @@
 //! The account table.
-ghost use Rattle.std.specs.Prelude.{◌≡◌, ℕ, ◌<◌, ◌≤◌, true, false, [], ◌∷◌, ◌++◌, length, None, Option, ◌≢◌};
+ghost use Rattle.std.specs.Prelude.{◌≡◌, ℕ, ◌+◌, ◌<◌, ◌≤◌, true, false, [], ◌∷◌, ◌++◌, length, drop, None, Option, ◌≢◌};
 ghost use Rattle.account.specs.Rows.{found, row_at, marking};
-ghost use Rattle.account.specs.Table.{in_use, Single, joining, place_of, joined};
+ghost use Rattle.account.specs.Table.{Table, in_use, Single, joining, place_of, joined};
 ghost use Rattle.account.specs.Laws.{Finds};
 
 use crate::fields::Account;
 use crate::lookups::find;
 use crate::rows::Row;
 use fault::Refusal;
+use std::marker::Model;
 
 /// How many rows a table has.
 pub const CAPACITY: usize = 8;
@@ -17,20 +18,29 @@ pub const CAPACITY: usize = 8;
 pub struct Accounts {
     rows: [Row; CAPACITY],
     count: usize,
-    ghost eight: { length rows ≡ 8 },
-    ghost within: { count ≤ 8 },
-    ghost single: { Single rows count },
+}
+
+/// A table means the rows in use, and those that are free.
+impl Model for Accounts {
+    ghost Value = { Table };
+
+    ghost view = { λ t. record { rows = in_use t.rows t.count; free = drop t.count t.rows } };
+
+    ghost invariant = { λ t. (length t.rows ≡ 8) × (t.count ≤ 8) × Single t.rows t.count };
 }
 
 impl Accounts {
     /// A table with no row in use.
     pub fn new() -> Accounts
-        ensures { in_use result.rows result.count ≡ [] }
+        ensures { result.rows ≡ [] }
     {
-        let blank = Row {
+        let account = Account {
             user: [b' '; 5],
             computer: [b' '; 8],
             protocol: [b' '; 8],
+        };
+        let blank = Row {
+            account,
             marked: false,
         };
         Accounts {
@@ -41,23 +51,25 @@ impl Accounts {
 
     /// How many rows are in use.
     pub fn count(&self) -> usize
-        ensures { result ≡ length (in_use self.now.rows self.now.count) }
+        ensures { result ≡ length self.now.rows }
     {
         self.rows().len()
     }
 
     /// The rows in use.
     pub fn rows(&self) -> &[Row]
-        ensures { result.now ≡ in_use self.now.rows self.now.count }
+        ensures rows { result.now ≡ self.now.rows }
+        ensures eight { length self.now.rows + length self.now.free ≡ 8 }
+        ensures single { Single self.now.rows (length self.now.rows) }
     {
         &self.rows[0..self.count]
     }
 
     /// The row in use of a user and a computer ID, where capital letters count as small ones.
     pub fn lookup(&self, user: &[u8], computer: &[u8]) -> Option<usize>
-        ensures answer { result ≡ found (in_use self.now.rows self.now.count) user.now computer.now }
-        ensures finds { Finds (in_use self.now.rows self.now.count) user.now computer.now result }
-        ensures only { (o : Option ℕ) → Finds (in_use self.now.rows self.now.count) user.now computer.now o → result ≡ o }
+        ensures answer { result ≡ found self.now.rows user.now computer.now }
+        ensures finds { Finds self.now.rows user.now computer.now result }
+        ensures only { (o : Option ℕ) → Finds self.now.rows user.now computer.now o → result ≡ o }
     {
         find(self.rows(), user, computer)
     }
@@ -65,8 +77,8 @@ impl Accounts {
     /// Adds an account and answers the place of its row. Refuses by `BadAccountField`, and then by
     /// `AccountTaken` where every row is in use or one matches.
     pub fn add(&mut self, user: &[u8], computer: &[u8], protocol: &[u8]) -> Result<usize, Refusal>
-        ensures answer { result ≡ place_of (in_use self.old.rows self.old.count) (joining (in_use self.old.rows self.old.count) user.now computer.now protocol.now) }
-        ensures after { in_use self.new.rows self.new.count ≡ joined (in_use self.old.rows self.old.count) (joining (in_use self.old.rows self.old.count) user.now computer.now protocol.now) }
+        ensures answer { result ≡ place_of self.old.rows (joining self.old.rows user.now computer.now protocol.now) }
+        ensures after { self.new.rows ≡ joined self.old.rows (joining self.old.rows user.now computer.now protocol.now) }
     {
         let account = Account::new(user, computer, protocol)?;
         let place = self.count;
@@ -77,9 +89,7 @@ impl Accounts {
             return Err(Refusal::AccountTaken);
         }
         self.push(Row {
-            user: account.user,
-            computer: account.computer,
-            protocol: account.protocol,
+            account,
             marked: false,
         });
         Ok(place)
@@ -87,9 +97,9 @@ impl Accounts {
 
     /// Puts a row behind those in use.
     fn push(&mut self, row: Row)
-        requires room { self.old.count < 8 }
-        requires absent { found (in_use self.old.rows self.old.count) row.user row.computer ≡ None }
-        ensures { in_use self.new.rows self.new.count ≡ in_use self.old.rows self.old.count ++ (row ∷ []) }
+        requires room { length self.old.rows < 8 }
+        requires absent { found self.old.rows row.account.user row.account.computer ≡ None }
+        ensures { self.new.rows ≡ self.old.rows ++ (row ∷ []) }
     {
         self.rows[self.count] = row;
         self.count += 1;
@@ -97,24 +107,27 @@ impl Accounts {
 
     /// Marks a row. Where it is not in use, nothing changes.
     pub fn mark(&mut self, row: usize)
-        ensures after { in_use self.new.rows self.new.count ≡ marking (in_use self.old.rows self.old.count) row true }
+        ensures after { self.new.rows ≡ marking self.old.rows row true }
         ensures others { (k : ℕ) → (k ≢ row) → row_at self.new.rows k ≡ row_at self.old.rows k }
+        ensures free { self.new.free ≡ self.old.free }
     {
         self.set_mark(row, true);
     }
 
     /// Takes the mark from a row. Where it is not in use, nothing changes.
     pub fn unmark(&mut self, row: usize)
-        ensures after { in_use self.new.rows self.new.count ≡ marking (in_use self.old.rows self.old.count) row false }
+        ensures after { self.new.rows ≡ marking self.old.rows row false }
         ensures others { (k : ℕ) → (k ≢ row) → row_at self.new.rows k ≡ row_at self.old.rows k }
+        ensures free { self.new.free ≡ self.old.free }
     {
         self.set_mark(row, false);
     }
 
     /// Sets or takes away the mark of a row that is in use.
     fn set_mark(&mut self, row: usize, mark: bool)
-        ensures after { in_use self.new.rows self.new.count ≡ marking (in_use self.old.rows self.old.count) row mark }
+        ensures after { self.new.rows ≡ marking self.old.rows row mark }
         ensures others { (k : ℕ) → (k ≢ row) → row_at self.new.rows k ≡ row_at self.old.rows k }
+        ensures free { self.new.free ≡ self.old.free }
     {
         if row < self.count {
             self.rows[row].marked = mark;

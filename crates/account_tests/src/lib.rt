@@ -20,11 +20,10 @@ mod tests {
         }
     }
 
-    fn refusal_of(user: &[u8]) -> u8 {
-        match Account::new(user, b"desk1", b"fill1.0") {
-            Ok(_) => 0,
-            Err(refusal) => refusal.number(),
-        }
+    // The number of the refusal of an account with this user, if it is refused.
+    fn refusal_of(user: &[u8]) -> Option<u8> {
+        let made = Account::new(user, b"desk1", b"fill1.0");
+        made.err().map(Refusal::number)
     }
 
     // Whether a call was refused, and with this refusal.
@@ -33,13 +32,9 @@ mod tests {
         answer: Result<T, Refusal>,
         refusal: Refusal,
     ) -> Result<(), Fail> {
-        match answer {
-            Ok(_) => Err(Fail::new("granted")),
-            Err(other) => {
-                assert_eq!(rt; other.number(), refusal.number());
-                Ok(())
-            },
-        }
+        let refused = answer.err().map(Refusal::number);
+        assert_eq!(rt; refused, Some(refusal.number()));
+        Ok(())
     }
 
     #[test]
@@ -48,11 +43,11 @@ mod tests {
         assert_eq!(rt; account.user, *b"mm1  ");
         assert_eq!(rt; account.computer, *b"desk0001");
         assert_eq!(rt; account.protocol, *b"!~      ");
-        assert_eq!(rt; refusal_of(b"abcde"), 0);
-        assert_eq!(rt; refusal_of(b"abcdef"), 16);
-        assert_eq!(rt; refusal_of(b""), 16);
-        assert_eq!(rt; refusal_of(b"a b"), 16);
-        assert_eq!(rt; refusal_of(b"a\x7F"), 16);
+        assert_eq!(rt; refusal_of(b"abcde"), None);
+        assert_eq!(rt; refusal_of(b"abcdef"), Some(16));
+        assert_eq!(rt; refusal_of(b""), Some(16));
+        assert_eq!(rt; refusal_of(b"a b"), Some(16));
+        assert_eq!(rt; refusal_of(b"a\x7F"), Some(16));
         Ok(())
     }
 

@@ -54,10 +54,6 @@ abbrev pub byte_of : Option ℕ → Option ℕ
 byte_of None = None
 byte_of (Some n) = cond (nat_lt n 256) (Some n) None
 
--- a text that is padded to a width
-abbrev pub field_of : ℕ → List ℕ → Result (List ℕ) Malformed
-field_of width text = cond (good width text) (Ok (padded width text)) (Err BadField)
-
 -- account USER COMPUTER PROTOCOL
 abbrev pub account_line : List Word → Result Order Malformed
 account_line words = cond (length words == 3) (Ok (account (text_at words 0) (text_at words 1) (text_at words 2))) (Err WordCount)

@@ -1,11 +1,12 @@
 //! The command that the words of a line write.
 ghost use Rattle.std.specs.Prelude.{◌≡◌};
-ghost use Rattle.admitting.specs.Commands.{passed_over, remark, said, read_of, verb_line, account_line, hub_line, login_line, logout_line, byte_of, field_of};
+ghost use Rattle.admitting.specs.Commands.{passed_over, said, read_of, verb_line, account_line, hub_line, login_line, logout_line, byte_of};
 ghost use Rattle.admitting.specs.declared.commands.Malformed.TheVariants.{BadField};
 
 use crate::words::{Verb, Word};
-use account::{Account, lay};
+use account::{Account, padded};
 use fault::Refusal;
+use thiserror::Error;
 
 /// What a line asks for.
 #[derive(Clone, Copy)]
@@ -36,15 +37,19 @@ pub enum Command<'a> {
 }
 
 /// Why a line writes no command.
-#[derive(Clone, Copy)]
+#[derive(Clone, Copy, PartialEq, Eq, Debug, Error)]
 pub enum Malformed {
     /// The first word is no verb.
+    #[error("the first word is not account, hub, login or logout")]
     NoVerb,
     /// The verb takes another number of words.
+    #[error("another number of words is wanted")]
     WordCount,
     /// A word should be a number, and is none or too large.
+    #[error("a word should be a number, and is none or too large")]
     NoNumber,
     /// A text cannot stand in its field.
+    #[error("a text is too wide or not visible ASCII")]
     BadField,
 }
 
@@ -54,16 +59,7 @@ pub fn is_passed_over(words: &[Word<'_>]) -> bool
 {
     match words {
         [] => true,
-        [first, ..] => is_remark(first.text),
-    }
-}
-
-fn is_remark(text: &[u8]) -> bool
-    ensures { result ≡ remark text.now }
-{
-    match text {
-        [] => false,
-        [byte, ..] => *byte == b'#',
+        [first, ..] => matches!(first.text, [b'#', ..]),
     }
 }
 
@@ -117,10 +113,10 @@ fn hub_line<'a>(words: &[Word<'a>]) -> Result<Command<'a>, Malformed>
     let [session, highest] = words else {
         return Err(Malformed::WordCount);
     };
-    match (byte_of(session.number), highest.number) {
-        (Some(session), Some(highest)) => Ok(Command::Hub { session, highest }),
-        _ => Err(Malformed::NoNumber),
-    }
+    Ok(Command::Hub {
+        session: byte_of(session.number).ok_or(Malformed::NoNumber)?,
+        highest: highest.number.ok_or(Malformed::NoNumber)?,
+    })
 }
 
 fn login_line<'a>(words: &[Word<'a>]) -> Result<Command<'a>, Malformed>
@@ -129,17 +125,12 @@ fn login_line<'a>(words: &[Word<'a>]) -> Result<Command<'a>, Malformed>
     let [version, user, computer, protocol, session, number] = words else {
         return Err(Malformed::WordCount);
     };
-    let version = five_of(version.text)?;
-    let account = Account::new(user.text, computer.text, protocol.text)?;
-    match (byte_of(session.number), number.number) {
-        (Some(session), Some(number)) => Ok(Command::Login {
-            version,
-            account,
-            session,
-            number,
-        }),
-        _ => Err(Malformed::NoNumber),
-    }
+    Ok(Command::Login {
+        version: padded(version.text)?,
+        account: Account::new(user.text, computer.text, protocol.text)?,
+        session: byte_of(session.number).ok_or(Malformed::NoNumber)?,
+        number: number.number.ok_or(Malformed::NoNumber)?,
+    })
 }
 
 fn logout_line<'a>(words: &[Word<'a>]) -> Result<Command<'a>, Malformed>
@@ -149,35 +140,14 @@ fn logout_line<'a>(words: &[Word<'a>]) -> Result<Command<'a>, Malformed>
         return Err(Malformed::WordCount);
     };
     Ok(Command::Logout {
-        user: five_of(user.text)?,
-        computer: eight_of(computer.text)?,
+        user: padded(user.text)?,
+        computer: padded(computer.text)?,
     })
-}
-
-/// A text that is padded to five bytes.
-fn five_of(text: &[u8]) -> Result<[u8; 5], Malformed>
-    ensures { result ≡ field_of 5 text.now }
-{
-    let mut field = [b' '; 5];
-    lay(&mut field, text)?;
-    Ok(field)
-}
-
-/// A text that is padded to eight bytes.
-fn eight_of(text: &[u8]) -> Result<[u8; 8], Malformed>
-    ensures { result ≡ field_of 8 text.now }
-{
-    let mut field = [b' '; 8];
-    lay(&mut field, text)?;
-    Ok(field)
 }
 
 /// A number that fits a byte.
 fn byte_of(number: Option<u64>) -> Option<u8>
     ensures { result ≡ byte_of number }
 {
-    match number {
-        Some(number) if number < 256 => Some(number as u8),
-        _ => None,
-    }
+    u8::try_from(number?).ok()
 }

@@ -1,6 +1,5 @@
 //! A desk at which logins are decided: what the commands do to it, and what they answer.
 ghost use Rattle.std.specs.Prelude.{◌≡◌};
-ghost use Rattle.account.specs.Table.{in_use};
 ghost use Rattle.admitting.specs.Commands.{order_of, asking, logout};
 ghost use Rattle.admitting.specs.Desks.{seen, opened, answered, done};
 
@@ -21,24 +20,20 @@ pub struct Desk {
 /// What a command is answered.
 #[derive(Clone, Copy)]
 pub enum Answer {
-    /// The account stands in this row.
-    Added(usize),
-    /// The account was refused.
-    Refused(Refusal),
+    /// The account stands in this row, or was refused.
+    Added(Result<usize, Refusal>),
     /// The hub's session and highest number are noted.
     Noted,
     /// The login was decided so.
     Decided(Status),
-    /// The mark of this row was taken away.
-    LoggedOut(usize),
-    /// No row is of this user and computer ID.
-    Nobody,
+    /// The mark of this row was taken away, or no row is of this user and computer ID.
+    LoggedOut(Option<usize>),
 }
 
 impl Desk {
     /// A desk with no account, in session 1, with no message.
     pub fn new() -> Desk
-        ensures { seen (in_use result.accounts.rows result.accounts.count) result.session result.highest ≡ opened }
+        ensures { seen result ≡ opened }
     {
         Desk {
             accounts: Accounts::new(),
@@ -56,18 +51,15 @@ impl Desk {
 
     /// Does what a command asks for.
     pub fn perform(&mut self, command: Command<'_>) -> Answer
-        ensures answer { result ≡ answered (seen (in_use self.old.accounts.rows self.old.accounts.count) self.old.session self.old.highest) (order_of command.entry) }
-        ensures after { seen (in_use self.new.accounts.rows self.new.accounts.count) self.new.session self.new.highest ≡ done (seen (in_use self.old.accounts.rows self.old.accounts.count) self.old.session self.old.highest) (order_of command.entry) }
+        ensures answer { result ≡ answered (seen self.old) (order_of command.entry) }
+        ensures after { seen self.new ≡ done (seen self.old) (order_of command.entry) }
     {
         match command {
             Command::Account {
                 user,
                 computer,
                 protocol,
-            } => match self.accounts.add(user, computer, protocol) {
-                Ok(row) => Answer::Added(row),
-                Err(refusal) => Answer::Refused(refusal),
-            },
+            } => Answer::Added(self.accounts.add(user, computer, protocol)),
             Command::Hub { session, highest } => {
                 self.session = session;
                 self.highest = highest;
@@ -84,8 +76,8 @@ impl Desk {
     }
 
     fn log_in(&mut self, version: [u8; 5], account: Account, session: u8, number: u64) -> Answer
-        ensures answer { result ≡ answered (seen (in_use self.old.accounts.rows self.old.accounts.count) self.old.session self.old.highest) (asking version account session number) }
-        ensures after { seen (in_use self.new.accounts.rows self.new.accounts.count) self.new.session self.new.highest ≡ done (seen (in_use self.old.accounts.rows self.old.accounts.count) self.old.session self.old.highest) (asking version account session number) }
+        ensures answer { result ≡ answered (seen self.old) (asking version account session number) }
+        ensures after { seen self.new ≡ done (seen self.old) (asking version account session number) }
     {
         let login = Login {
             version: &version,
@@ -95,22 +87,18 @@ impl Desk {
             session,
             number,
         };
-        match self.accounts.admit(login, self.session, self.highest) {
-            Ok(_) => Answer::Decided(Status::Accepted),
-            Err(status) => Answer::Decided(status),
-        }
+        let status = self.accounts.admit(login, self.session, self.highest).err();
+        Answer::Decided(status.unwrap_or(Status::Accepted))
     }
 
     fn log_out(&mut self, user: [u8; 5], computer: [u8; 8]) -> Answer
-        ensures answer { result ≡ answered (seen (in_use self.old.accounts.rows self.old.accounts.count) self.old.session self.old.highest) (logout user computer) }
-        ensures after { seen (in_use self.new.accounts.rows self.new.accounts.count) self.new.session self.new.highest ≡ done (seen (in_use self.old.accounts.rows self.old.accounts.count) self.old.session self.old.highest) (logout user computer) }
+        ensures answer { result ≡ answered (seen self.old) (logout user computer) }
+        ensures after { seen self.new ≡ done (seen self.old) (logout user computer) }
     {
-        match self.accounts.lookup(&user, &computer) {
-            Some(row) => {
-                self.accounts.unmark(row);
-                Answer::LoggedOut(row)
-            }
-            None => Answer::Nobody,
+        let row = self.accounts.lookup(&user, &computer);
+        if let Some(row) = row {
+            self.accounts.unmark(row);
         }
+        Answer::LoggedOut(row)
     }
 }

@@ -47,8 +47,5 @@ fn verb_of(text: &str) -> Option<Verb>
 fn number_of(text: &str) -> Option<u64>
     ensures { Writes text.now result }
 {
-    match text.parse::<u64>() {
-        Ok(number) => Some(number),
-        Err(_) => None,
-    }
+    text.parse().ok()
 }

@@ -39,7 +39,7 @@ abbrev pub narrow_checks : List Row → Option ℕ → ℕ → ℕ → Asked →
 narrow_checks rows row session highest asked =
     record { passes = bytes_eq asked.version spoken_version; status = WrongVersion }
     ∷ record { passes = of_row row (λ i. true); status = UnknownUser }
-    ∷ record { passes = of_row row (λ i. bytes_eq (row_at rows i).protocol asked.protocol); status = WrongProtocol }
+    ∷ record { passes = of_row row (λ i. bytes_eq (row_at rows i).account.protocol asked.protocol); status = WrongProtocol }
     ∷ record { passes = of_row row (λ i. not (row_at rows i).marked); status = AlreadyLoggedIn }
     ∷ record { passes = asked.session == 0 || (asked.session == session); status = SessionUnavailable }
     ∷ record { passes = nat_le asked.number highest; status = InvalidNumber }
@@ -68,7 +68,7 @@ NextNumberPasses = (how : How) (s : Pair) → Honest s → rightly how s ≢ Inv
 pub record CaughtUp (i : ℕ) (s : Pair) : Type 0 where
   pub level : Level s.running.log s
   pub row : found s.rows s.account.user s.account.computer ≡ Some i
-  pub protocol : bytes_eq (row_at s.rows i).protocol s.account.protocol ≡ true
+  pub protocol : bytes_eq (row_at s.rows i).account.protocol s.account.protocol ≡ true
   pub unused : (row_at s.rows i).marked ≡ false
 
 pub record LockedOut (s : Pair) : Type 0 where

@@ -17,7 +17,7 @@ abbrev pub the_account : Account
 the_account = record { user = replicate 5 0x41; computer = replicate 8 0x42; protocol = replicate 8 0x43 }
 
 abbrev pub the_row : Bool → Row
-the_row mark = record { user = the_account.user; computer = the_account.computer; protocol = the_account.protocol; marked = mark }
+the_row mark = record { account = the_account; marked = mark }
 
 abbrev pub log_of : ℕ → List Message → Meaning
 log_of session messages = record { session = session; messages = messages; size = 65536; overhead = 0; places = 1000 }

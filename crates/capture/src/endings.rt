@@ -3,7 +3,7 @@ use crate::tallies::Tally;
 use fault::Fault;
 
 /// How a capture ended.
-#[derive(Clone, Copy)]
+#[derive(Clone, Copy, PartialEq, Eq, Debug)]
 pub enum Ending {
     /// Right after a packet, or before the first one.
     Clean,

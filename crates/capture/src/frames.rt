@@ -6,13 +6,14 @@
 //!         +---------+----------------------+---------+
 //!         0         from                   to        PACKET_LIMIT
 //! ```
-ghost use Rattle.std.specs.Prelude.{◌≡◌, ◌+◌, ◌≤◌, [], length, drop, MatchResult};
+ghost use Rattle.std.specs.Prelude.{◌≡◌, ℕ, ◌-◌, ◌≤◌, List, [], length, drop};
 ghost use Rattle.layout.specs.Limits.{packet_limit};
 ghost use Rattle.capture.specs.Windows.{window, Filled};
 
 use layout::PACKET_LIMIT;
 use std::io;
 use std::io::Read;
+use std::marker::Model;
 
 /// Bytes that were read and are not explained yet: as many as the longest packet has, and no more.
 #[derive(Drop)]
@@ -20,13 +21,21 @@ pub struct Frame {
     memory: [u8; PACKET_LIMIT],
     from: usize,
     to: usize,
-    ghost within: { (from ≤ to) × (to ≤ packet_limit) },
+}
+
+/// A frame means the bytes that it holds.
+impl Model for Frame {
+    ghost Value = { List ℕ };
+
+    ghost view = { λ f. window f.memory f.from f.to };
+
+    ghost invariant = { λ f. (f.from ≤ f.to) × (f.to ≤ packet_limit) };
 }
 
 impl Frame {
     /// A frame that holds nothing.
     pub fn new() -> Frame
-        ensures { window result.memory result.from result.to ≡ [] }
+        ensures { result ≡ [] }
     {
         Frame {
             memory: [0; PACKET_LIMIT],
@@ -37,14 +46,15 @@ impl Frame {
 
     /// The bytes held.
     pub fn bytes(&self) -> &[u8]
-        ensures { result.now ≡ window self.now.memory self.now.from self.now.to }
+        ensures held { result.now ≡ self.now }
+        ensures short { length self.now ≤ packet_limit }
     {
         &self.memory[self.from..self.to]
     }
 
     /// Passes over the first bytes held: so many of them, or all where there are fewer.
     pub fn pass(&mut self, count: usize)
-        ensures { window self.new.memory self.new.from self.new.to ≡ drop count (window self.old.memory self.old.from self.old.to) }
+        ensures { self.new ≡ drop count self.old }
     {
         let held = self.to - self.from;
         self.from += count.min(held);
@@ -53,24 +63,24 @@ impl Frame {
     /// Reads once from the input, behind what is held, as much as the memory has room for. Gives the count of
     /// the bytes that came: 0 at the input's end, or where the frame is full.
     pub fn fill<R: Read>(&mut self, input: &mut R) -> io::Result<usize>
-        ensures { Filled (window self.old.memory self.old.from self.old.to) (window self.new.memory self.new.from self.new.to) result }
+        ensures { Filled self.old self.new result }
     {
-        self.settle();
-        let to = self.to;
+        let to = settle(&mut self.memory, self.from, self.to);
+        self.from = 0;
+        self.to = to;
         let count = input.read(&mut self.memory[to..])?;
         self.to = to + count;
         Ok(count)
     }
+}
 
-    // Moves the bytes held to the front of the memory.
-    fn settle(&mut self)
-        ensures same { window self.new.memory self.new.from self.new.to ≡ window self.old.memory self.old.from self.old.to }
-        ensures front { self.new.from ≡ 0 }
-    {
-        let from = self.from;
-        let to = self.to;
-        self.memory.copy_within(from..to, 0);
-        self.from = 0;
-        self.to = to - from;
-    }
+// Moves the bytes from one place up to another to the front of the memory, and gives their count.
+fn settle(memory: &mut [u8], from: usize, to: usize) -> usize
+    requires ordered { from ≤ to }
+    requires within { to ≤ length memory.old }
+    ensures count { result ≡ to - from }
+    ensures same { window memory.new 0 result ≡ window memory.old from to }
+{
+    memory.copy_within(from..to, 0);
+    to - from
 }

@@ -1,8 +1,9 @@
 //! How many packets of each letter a capture has.
-ghost use Rattle.std.specs.Prelude.{◌≡◌, ℕ, replicate, slice_index};
+ghost use Rattle.std.specs.Prelude.{◌≡◌, ℕ, List, replicate, slice_index};
 ghost use Rattle.capture.specs.Tallies.{ordinal, raised};
 
 use layout::Letter;
+use std::marker::Model;
 
 /// A count for each letter. A count that has come to the largest `u64` stays there.
 #[derive(Clone, Copy)]
@@ -10,17 +11,26 @@ pub struct Tally {
     counts: [u64; 12],
 }
 
+/// A tally means its counts.
+impl Model for Tally {
+    ghost Value = { List ℕ };
+
+    ghost view = { λ t. t.counts };
+
+    ghost inverse = { λ counts. record { counts = counts } };
+}
+
 impl Tally {
     /// Every count 0.
     pub fn new() -> Tally
-        ensures { result.counts ≡ replicate 12 0 }
+        ensures { result ≡ replicate 12 0 }
     {
         Tally { counts: [0; 12] }
     }
 
     /// One packet more with this letter.
     pub fn note(&mut self, letter: Letter)
-        ensures { self.new.counts ≡ raised self.old.counts letter }
+        ensures { self.new ≡ raised self.old letter }
     {
         let place = place_of(letter);
         self.counts[place] = self.counts[place].saturating_add(1);
@@ -28,13 +38,13 @@ impl Tally {
 
     /// How many packets with this letter there were.
     pub fn count(&self, letter: Letter) -> u64
-        ensures { result ≡ slice_index self.now.counts (ordinal letter) }
+        ensures { result ≡ slice_index self.now (ordinal letter) }
     {
         self.counts[place_of(letter)]
     }
 }
 
-// Where a letter's count stands.
+// Where a letter's count stands. The number that the enum gives a letter is its byte on the wire, and no place.
 fn place_of(letter: Letter) -> usize
     ensures { result ≡ ordinal letter }
 {

@@ -3,7 +3,7 @@
 //! Left out: where they are printed.
 #![tactic(auto)]
 
-ghost use Rattle.std.specs.Prelude.{◌≡◌, ◌%◌, ◌++◌, map, IfOk, OnOk};
+ghost use Rattle.std.specs.Prelude.{◌≡◌, ◌%◌, IfOk};
 ghost use Rattle.std.specs.List.{flat_map};
 ghost use Rattle.dump.specs.Rows.{digit_of, hex_of, readable_of, row_of};
 
@@ -40,36 +40,22 @@ pub fn readable(byte: u8) -> u8
     }
 }
 
-/// Adds the bytes in hex to a line. Where memory is wanting, the line is left unfinished.
-fn push_hex(line: &mut Vec<u8>, bytes: &[u8]) -> Result<(), AllocError>
-    ensures { OnOk result (line.new.items ≡ line.old.items ++ flat_map hex_of bytes.now) }
+/// The bytes in hex, one after the other.
+fn hexed(heap: Global, bytes: &[u8]) -> Result<Vec<u8>, AllocError>
+    ensures { IfOk result (λ v. v.items ≡ flat_map hex_of bytes.now) }
 {
-    for byte in bytes {
-        line.extend_from_slice(&hex(*byte))?;
-    }
-    Ok(())
-}
-
-/// Adds the readable bytes to a line. Where memory is wanting, the line is left unfinished.
-fn push_readable(line: &mut Vec<u8>, bytes: &[u8]) -> Result<(), AllocError>
-    ensures { OnOk result (line.new.items ≡ line.old.items ++ map readable_of bytes.now) }
-{
-    for byte in bytes {
-        line.push(readable(*byte))?;
-    }
-    Ok(())
+    bytes.iter().copied().flat_map(hex).collect(heap)
 }
 
 /// A row of bytes: in hex, filled up to the width of a full row, and readable between two bars.
 pub fn row(heap: Global, bytes: &[u8]) -> Result<Vec<u8>, AllocError>
     ensures { IfOk result (λ v. v.items ≡ row_of bytes.now) }
 {
-    let mut line = Vec::new(heap);
-    push_hex(&mut line, bytes)?;
+    let mut line = hexed(heap, bytes)?;
     let width = line.len().max(HEX_WIDTH);
     line.resize(width, b' ')?;
     line.push(b'|')?;
-    push_readable(&mut line, bytes)?;
+    line.extend(bytes.iter().copied().map(readable))?;
     line.push(b'|')?;
     Ok(line)
 }

@@ -10,6 +10,8 @@ use Rattle.capture.specs.Tallies.{raised}
 use Rattle.capture.specs.Windows.{Grown}
 use Rattle.capture.specs.declared.endings.Ending.{Ending}
 use Rattle.capture.specs.declared.endings.Ending.TheVariants as E
+use Rattle.capture.specs.declared.endings.Summary.{Summary}
+use Rattle.explaining.specs.declared.explainers.Explainer.{Explainer}
 
 -- the counts of the packets told, one after the other
 abbrev pub tallied : List ℕ → List Value → List ℕ
@@ -29,25 +31,25 @@ Ends held (E.Fault (F.Packet fault)) = decode held ≡ Err fault
 Ends held (E.Fault (F.Log fault)) = ⊥
 
 -- before the first byte
-abbrev pub Fresh : List ℕ → List ℕ → ℕ → Type 0
-Fresh held counts offset = (held ≡ []) × (counts ≡ replicate 12 0) × (offset ≡ 0)
+abbrev pub Fresh : Explainer → Type 0
+Fresh e = (e.frame ≡ []) × (e.tally ≡ replicate 12 0) × (e.offset ≡ 0)
 
--- a run has gone on: more bytes came, or a packet was told, or both are as they were
-pub record Went (bs : List ℕ) (vs : List Value) (held counts : List ℕ) (offset : ℕ) : Type 0 where
+-- a run has gone on to here: more bytes came, or a packet was told, or both are as they were
+pub record Went (bs : List ℕ) (vs : List Value) (e : Explainer) : Type 0 where
   pub more : List ℕ
   pub packets : List Value
-  pub run : Run (bs ++ more) packets held
-  pub knows : Knows packets counts offset
+  pub run : Run (bs ++ more) packets e.frame
+  pub knows : Knows packets e.tally e.offset
 
 -- how far a run has come
 abbrev pub progress : List ℕ → List Value → ℕ
 progress bs vs = length bs + length vs
 
 -- no ending yet: something was read or told; else an ending that fits what is held
-abbrev pub Answers : (bs : List ℕ) (vs : List Value) (held counts : List ℕ) (offset : ℕ) → Result (Option Ending) Error → Went bs vs held counts offset → Type 0
-Answers bs vs held counts offset (Ok None) w = progress bs vs < progress (bs ++ w.more) w.packets
-Answers bs vs held counts offset (Ok (Some ending)) w = Ends held ending
-Answers bs vs held counts offset (Err fault) w = Unit {0}
+abbrev pub Answers : (bs : List ℕ) (vs : List Value) (e : Explainer) → Result (Option Ending) Error → Went bs vs e → Type 0
+Answers bs vs e (Ok None) w = progress bs vs < progress (bs ++ w.more) w.packets
+Answers bs vs e (Ok (Some ending)) w = Ends e.frame ending
+Answers bs vs e (Err fault) w = Unit {0}
 
 -- a read: bytes came behind those held, or none came, and the ending fits a held part
 abbrev pub More : List ℕ → List ℕ → Result (Option Ending) Error → Type 0
@@ -58,19 +60,19 @@ More old new (Ok (Some (E.Fault fault))) = ⊥
 More old new (Err fault) = new ≡ old
 
 -- one step of an explainer takes any run that led to it further
-abbrev pub Turned : (held counts : List ℕ) (offset : ℕ) (held' counts' : List ℕ) (offset' : ℕ) → Result (Option Ending) Error → Type 0
-Turned held counts offset held' counts' offset' r =
-    (bs : List ℕ) (vs : List Value) → Run bs vs held → Knows vs counts offset → (w : Went bs vs held' counts' offset') × Answers bs vs held' counts' offset' r w
+abbrev pub Turned : Explainer → Explainer → Result (Option Ending) Error → Type 0
+Turned old new r =
+    (bs : List ℕ) (vs : List Value) → Run bs vs old.frame → Knows vs old.tally old.offset → (w : Went bs vs new) × Answers bs vs new r w
 
 -- a run from the first byte has led here; which bytes came is the input's affair
-pub record Reached (held counts : List ℕ) (offset : ℕ) : Type 0 where
+pub record Reached (e : Explainer) : Type 0 where
   pub bytes : List ℕ
   pub packets : List Value
-  pub run : Run bytes packets held
-  pub knows : Knows packets counts offset
+  pub run : Run bytes packets e.frame
+  pub knows : Knows packets e.tally e.offset
 
 -- a whole capture: what was reached, and an ending that fits what is left
-pub record Explained (counts : List ℕ) (offset : ℕ) (ending : Ending) : Type 0 where
+pub record Explained (s : Summary) : Type 0 where
   pub held : List ℕ
-  pub reached : Reached held counts offset
-  pub ends : Ends held ending
+  pub reached : Reached (record { frame = held; tally = s.tally; offset = s.offset })
+  pub ends : Ends held s.ending

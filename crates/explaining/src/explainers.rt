@@ -1,6 +1,5 @@
 //! Explaining a capture from its first byte to its ending.
 ghost use Rattle.std.specs.Prelude.{◌≡◌, IfOk};
-ghost use Rattle.capture.specs.Windows.{window};
 ghost use Rattle.explaining.specs.Explained.{Turned, More, Explained, Fresh};
 
 use capture::{Ending, Frame, Summary, Tally, find};
@@ -21,7 +20,7 @@ pub struct Explainer {
 impl Explainer {
     /// Before the first byte.
     pub fn new() -> Explainer
-        ensures { Fresh (window result.frame.memory result.frame.from result.frame.to) result.tally.counts result.offset }
+        ensures { Fresh result }
     {
         Explainer {
             frame: Frame::new(),
@@ -38,14 +37,12 @@ impl Explainer {
         input: &mut R,
         out: &mut W,
     ) -> io::Result<Option<Ending>>
-        ensures { Turned (window self.old.frame.memory self.old.frame.from self.old.frame.to) self.old.tally.counts self.old.offset (window self.new.frame.memory self.new.frame.from self.new.frame.to) self.new.tally.counts self.new.offset result }
+        ensures { Turned self.old self.new result }
     {
-        let front = match find(self.frame.bytes()) {
-            Ok(front) => front,
+        let found = match find(self.frame.bytes()) {
+            Ok(Some(found)) => found,
+            Ok(None) => return self.more(input),
             Err(fault) => return Ok(Some(Ending::Fault(fault))),
-        };
-        let Some(found) = front else {
-            return self.more(input);
         };
         show_packet(heap, out, self.offset, found.size, found.packet)?;
         let letter = found.packet.letter();
@@ -58,7 +55,7 @@ impl Explainer {
 
     // Reads more behind what is held, or gives the ending where nothing comes.
     fn more<R: Read>(&mut self, input: &mut R) -> io::Result<Option<Ending>>
-        ensures frame { More (window self.old.frame.memory self.old.frame.from self.old.frame.to) (window self.new.frame.memory self.new.frame.from self.new.frame.to) result }
+        ensures frame { More self.old.frame self.new.frame result }
         ensures tally { self.new.tally ≡ self.old.tally }
         ensures offset { self.new.offset ≡ self.old.offset }
     {
@@ -74,10 +71,11 @@ impl Explainer {
 
 /// Explains a capture from its first byte to its ending, and then writes the summary line.
 pub fn explain<R: Read, W: Write>(heap: Global, input: &mut R, out: &mut W) -> io::Result<Summary>
-    ensures { IfOk result (λ s. Explained s.tally.counts s.offset s.ending) }
+    ensures { IfOk result Explained }
 {
     let mut explainer = Explainer::new();
     writeln!(out, "{:>10} {:>6}  {}", "offset", "bytes", "packet")?;
+    // to the input's end: each turn reads, or tells a packet, or gives the ending
     for _ in 0..u64::MAX {
         if let Some(ending) = explainer.turn(heap, input, out)? {
             let summary = Summary {
@@ -86,7 +84,7 @@ pub fn explain<R: Read, W: Write>(heap: Global, input: &mut R, out: &mut W) -> i
                 ending,
             };
             show_rest(heap, out, explainer.offset, explainer.frame.bytes())?;
-            show_summary(out, summary)?;
+            show_summary(out, &summary)?;
             return Ok(summary);
         }
     }

@@ -7,18 +7,14 @@
 mod showing;
 
 use admitting::{Desk, Word, is_passed_over, read, word_of};
-use showing::{show_answer, show_malformed, show_table};
+use showing::{show_answer, show_table};
 use std::alloc::{AllocError, Global};
 use std::io;
 use std::io::{BufRead, BufReader, BufWriter, Write};
 
 /// The words of a line.
 fn words_of(heap: Global, line: &str) -> Result<Vec<Word<'_>>, AllocError> {
-    let mut words = Vec::new(heap);
-    for text in line.split_whitespace() {
-        words.push(word_of(text))?;
-    }
-    Ok(words)
+    line.split_whitespace().map(word_of).collect(heap)
 }
 
 /// Does what the words of a line ask for, and shows the line and the answer.
@@ -34,7 +30,7 @@ fn take_line<W: Write>(
     writeln!(out, "{line}")?;
     match read(words) {
         Ok(command) => show_answer(out, desk.perform(command)),
-        Err(why) => show_malformed(out, why),
+        Err(why) => writeln!(out, "    malformed: {why}"),
     }
 }
 
@@ -51,8 +47,5 @@ fn run(rt: &HostRuntime) -> io::Result<()> {
 }
 
 fn main(rt: HostRuntime) -> anyhow::Result<()> {
-    match run(&rt) {
-        Ok(_) => Ok(()),
-        Err(error) => Err(error.into()),
-    }
+    Ok(run(&rt)?)
 }

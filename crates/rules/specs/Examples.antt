@@ -41,7 +41,7 @@ abbrev pub protocol : List ℕ
 protocol = 0x46 ∷ 0x49 ∷ 0x4C ∷ 0x4C ∷ 0x53 ∷ 0x20 ∷ 0x20 ∷ 0x20 ∷ []
 
 abbrev pub row : Bool → Row
-row marked = record { user = user; computer = computer; protocol = protocol; marked = marked }
+row marked = record { account = record { user = user; computer = computer; protocol = protocol }; marked = marked }
 
 -- two messages
 abbrev pub first : List ℕ

@@ -1,8 +1,12 @@
 //! One packet in words, and bytes that are no packet.
+//!
+//! What makes a row is given the heap beside the output, as std's calls are: a struct of the two would be taken
+//! apart again at each call.
 use crate::texts::Text;
 use dump::{ROW, row};
 use packet::{Login, Packet, Reader};
 use std::alloc::Global;
+use std::fmt::Display;
 use std::io;
 use std::io::Write;
 
@@ -39,16 +43,8 @@ pub fn show_packet<W: Write>(
             show_message(heap, out, message)
         }
         Packet::RetransmissionRequest { start, end } => writeln!(out, ": start {start}, end {end}"),
-        Packet::LogoutRequest { reason, text } => {
-            let code = char::from(reason.byte());
-            let text = Text(text);
-            writeln!(out, ": reason '{code}' ({reason}), text {text}")
-        }
-        Packet::GoodBye { reason, text } => {
-            let code = char::from(reason.byte());
-            let text = Text(text);
-            writeln!(out, ": reason '{code}' ({reason}), text {text}")
-        }
+        Packet::LogoutRequest { reason, text } => show_leaving(out, reason.byte(), reason, text),
+        Packet::GoodBye { reason, text } => show_leaving(out, reason.byte(), reason, text),
         Packet::Test { text } => {
             let text = Text(text);
             writeln!(out, ": text {text}")
@@ -58,6 +54,18 @@ pub fn show_packet<W: Write>(
         | Packet::HubHeartbeat
         | Packet::SeatHeartbeat => writeln!(out),
     }
+}
+
+// Why an end leaves: the reason with its byte in the packet, and a text.
+fn show_leaving<W: Write, R: Display + Copy>(
+    out: &mut W,
+    byte: u8,
+    reason: R,
+    text: &[u8],
+) -> io::Result<()> {
+    let code = char::from(byte);
+    let text = Text(text);
+    writeln!(out, ": reason '{code}' ({reason}), text {text}")
 }
 
 fn show_login<W: Write>(out: &mut W, login: Login<'_>) -> io::Result<()> {
@@ -97,10 +105,7 @@ fn show_row<W: Write>(heap: Global, out: &mut W, bytes: &[u8]) -> io::Result<()>
 /// Writes the bytes that could not be told as a packet, if there are any: those of the part, or of the faulty
 /// packet as far as its length number can be trusted.
 pub fn show_rest<W: Write>(heap: Global, out: &mut W, offset: u64, rest: &[u8]) -> io::Result<()> {
-    let size = match Reader::new(rest).packet_len() {
-        Ok(Some(size)) => size,
-        _ => 2,
-    };
+    let size = Reader::new(rest).packet_len().ok().flatten().unwrap_or(2);
     let count = size.min(rest.len());
     if count == 0 {
         return Ok(());

@@ -6,11 +6,11 @@ use std::io;
 use std::io::Write;
 
 /// Writes the summary line: packets by letter, bytes, and how the capture ended.
-pub fn show_summary<W: Write>(out: &mut W, summary: Summary) -> io::Result<()> {
-    let mut packets = 0u64;
-    for letter in LETTERS {
-        packets = packets.saturating_add(summary.tally.count(letter));
-    }
+pub fn show_summary<W: Write>(out: &mut W, summary: &Summary) -> io::Result<()> {
+    let packets = LETTERS
+        .iter()
+        .map(|letter| summary.tally.count(*letter))
+        .fold(0, u64::saturating_add);
     write!(out, "packets {packets}")?;
     let mut mark = ':';
     for letter in LETTERS {

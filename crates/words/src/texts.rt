@@ -8,29 +8,22 @@ pub struct Text<'a>(pub &'a [u8]);
 impl fmt::Display for Text<'_> {
     fn fmt<W: fmt::Write>(&self, f: &mut fmt::Formatter<W>) -> fmt::Result {
         f.write_str("\"")?;
-        for b in unpadded(self.0) {
-            match *b {
+        for byte in unpadded(self.0).iter().copied() {
+            match byte {
                 b'"' => f.write_str("\\\"")?,
                 b'\\' => f.write_str("\\\\")?,
-                0x20..=0x7e => f.write_char(char::from(*b))?,
-                _ => {
-                    let x = *b;
-                    write!(f, "\\x{x:02x}")?;
-                }
+                b' '..=b'~' => f.write_char(char::from(byte))?,
+                _ => write!(f, "\\x{byte:02x}")?,
             }
         }
         f.write_str("\"")
     }
 }
 
-// The bytes without the spaces at their end.
+// The bytes without the spaces at their end. The library's `trim_ascii_end` would take tabs and line ends away too.
 fn unpadded(bytes: &[u8]) -> &[u8] {
-    let mut count = bytes.len();
-    for _ in 0..bytes.len() {
-        if count == 0 || bytes[count - 1] != b' ' {
-            break;
-        }
-        count -= 1;
+    match bytes.iter().rposition(|byte| *byte != b' ') {
+        Some(last) => &bytes[..=last],
+        None => &[],
     }
-    &bytes[0..count]
 }

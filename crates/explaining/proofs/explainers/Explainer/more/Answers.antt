@@ -5,7 +5,7 @@ use Rattle.explaining.proofs.explainers.Explainer.more.Goals as goal
 
 pub returns-in-0 : goal.returns-in-0
 returns-in-0 g c =
-    let b = c.bytes.ensures in
+    let b = c.bytes.ensures.held in
     record {
       frame = (same_window _ _ _ c.in_ok-fill.ensures c.if-branch-gt0.false, nil_from_length _ (ap length (sym b) ∙ c.in-0.is));
       tally = refl;
@@ -14,7 +14,7 @@ returns-in-0 g c =
 
 pub returns-in_default : goal.returns-in_default
 returns-in_default g c =
-    let b = c.bytes.ensures in
+    let b = c.bytes.ensures.held in
     record {
       frame = (same_window _ _ _ c.in_ok-fill.ensures c.if-branch-gt0.false, ap length (sym b), search rules);
       tally = refl;

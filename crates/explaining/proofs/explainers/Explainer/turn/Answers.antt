@@ -1,8 +1,8 @@
-use Rattle.std.proofs.Common.{ℕ, List, Ok, Err, ap, ◌∙◌, subst}
+use Rattle.std.proofs.Common.{ℕ, List, Ok, Err, Option, ap, ◌∙◌, subst}
 use Rattle.std.proofs.lemmas.Result.{err_from_is_err_and}
 use Rattle.packet.specs.Meanings.{value_of}
-use Rattle.capture.specs.declared.tallies.Tally.{Tally}
-use Rattle.capture.specs.Finding.{Tells}
+use Rattle.capture.specs.Finding.{Part, PacketAt, Tells}
+use Rattle.capture.specs.declared.finding.Found.{Found}
 use Rattle.capture.specs.Tallies.{raised}
 use Rattle.explaining.proofs.Turns.{turned_fault, turned_error, turned_more, turned_told}
 use Rattle.explaining.proofs.explainers.Explainer.turn.Goals as goal
@@ -10,24 +10,21 @@ use Rattle.explaining.proofs.explainers.Explainer.turn.Goals as goal
 pub returns-in-Err : goal.returns-in-Err
 returns-in-Err g c =
     let fault = c.in-Err.fault in
-    turned_fault _ _ _ fault (subst (λ (x : List ℕ). Tells x (Err fault)) c.bytes.ensures c.in-Err.ensures)
+    turned_fault _ fault (subst (λ (x : List ℕ). Tells x (Err fault)) c.bytes.ensures.held c.in-Err.ensures)
 
-pub returns-in_default : goal.returns-in_default
-returns-in_default g c =
+pub returns-in-Ok-None : goal.returns-in-Ok-None
+returns-in-Ok-None g c =
     let m = c.more.ensures in
-    let t = subst (λ (x : List ℕ). Tells x (Ok c.in-Ok.front)) c.bytes.ensures c.in-Ok.ensures in
-    let p = rw c.in_default.is at t in
-    turned_more _ _ _ _ _ _ c.more.result p (ap (λ (t : Tally). t.counts) m.tally) m.offset m.frame
+    turned_more _ _ c.more.result (subst Part c.bytes.ensures.held (subst (λ (o : Option Found). Tells c.bytes.result.now (Ok o)) c.in-Ok-None.field-0-is c.in-Ok-None.ensures)) m.tally m.offset m.frame
 
 pub returns-in_err-show_packet : goal.returns-in_err-show_packet
 returns-in_err-show_packet g c =
     let r = err_from_is_err_and c.from_residual.result c.from_residual.ensures.1 in
-    rw r.1 (turned_error _ _ _ r.0)
+    rw r.1 (turned_error _ r.0)
 
 pub returns : goal.returns
 returns g c =
-    let found = c.in-Some.found in
+    let found = c.in-Ok-Some.found in
     let v = value_of found.packet in
-    let t = subst (λ (x : List ℕ). Tells x (Ok c.in-Ok.front)) c.bytes.ensures c.in-Ok.ensures in
-    let at = rw c.in-Some.is at t in
-    turned_told _ _ _ v found.size _ _ _ at c.pass.ensures (c.note.ensures ∙ ap (raised c.args.self.now.tally.counts) c.letter-letter.ensures) c.saturating_add-self.ensures
+    let at = subst (λ (x : List ℕ). PacketAt x v found.size) c.bytes.ensures.held (subst (λ (o : Option Found). Tells c.bytes.result.now (Ok o)) c.in-Ok-Some.field-0-is c.in-Ok-Some.ensures) in
+    turned_told _ _ v found.size at c.pass.ensures (c.note.ensures ∙ ap (raised c.args.self.now.tally) c.letter-letter.ensures) c.saturating_add-self.ensures

@@ -1,5 +1,0 @@
-use Rattle.admitting.proofs.Padded.{field_laid}
-use Rattle.admitting.proofs.commands.five_of.Goals as goal
-
-pub returns : goal.returns
-returns c = field_laid 5 c.args.text.now c.lay.new.field _ _ c.lay.ensures.answer c.in_ok-lay.was c.lay.ensures.after
