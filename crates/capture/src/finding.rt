@@ -2,7 +2,7 @@
 ghost use Rattle.capture.specs.Finding.{Tells};
 
 use fault::Fault;
-use packet::{Packet, Read, Reader};
+use packet::{Packet, Reader};
 
 /// A packet, and how many bytes it takes.
 #[derive(Clone, Copy)]
@@ -19,8 +19,5 @@ pub fn find<'a>(bytes: &'a [u8]) -> Result<Option<Found<'a>>, Fault>
     let Some(size) = reader.packet_len()? else {
         return Ok(None);
     };
-    match reader.read()? {
-        Read::Part => Ok(None),
-        Read::Whole(packet) => Ok(Some(Found { packet, size })),
-    }
+    Ok(reader.read()?.map(|packet| Found { packet, size }))
 }

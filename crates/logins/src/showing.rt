@@ -14,7 +14,7 @@ pub fn show_answer<W: Write>(out: &mut W, answer: Answer) -> io::Result<()> {
         }
         Answer::Noted => writeln!(out, "    noted"),
         Answer::Decided(status) => {
-            let letter = char::from(status.byte());
+            let letter = char::from(u8::from(status));
             writeln!(out, "    '{letter}' {status}")
         }
         Answer::LoggedOut(Some(row)) => writeln!(out, "    row {row} is logged out"),

@@ -19,7 +19,7 @@ pub fn show_packet<W: Write>(
     packet: Packet<'_>,
 ) -> io::Result<()> {
     let letter = packet.letter();
-    let byte = char::from(letter.byte());
+    let byte = char::from(u8::from(letter));
     write!(out, "{offset:>10} {size:>6}  {byte} {letter}")?;
     match packet {
         Packet::LoginRequest(login) => show_login(out, login),
@@ -28,7 +28,7 @@ pub fn show_packet<W: Write>(
             session,
             highest,
         } => {
-            let code = char::from(status.byte());
+            let code = char::from(u8::from(status));
             writeln!(
                 out,
                 ": status '{code}' ({status}), session {session}, highest {highest}"
@@ -43,8 +43,8 @@ pub fn show_packet<W: Write>(
             show_message(heap, out, message)
         }
         Packet::RetransmissionRequest { start, end } => writeln!(out, ": start {start}, end {end}"),
-        Packet::LogoutRequest { reason, text } => show_leaving(out, reason.byte(), reason, text),
-        Packet::GoodBye { reason, text } => show_leaving(out, reason.byte(), reason, text),
+        Packet::LogoutRequest { reason, text } => show_leaving(out, u8::from(reason), reason, text),
+        Packet::GoodBye { reason, text } => show_leaving(out, u8::from(reason), reason, text),
         Packet::Test { text } => {
             let text = Text(text);
             writeln!(out, ": text {text}")

@@ -16,7 +16,7 @@ pub fn show_summary<W: Write>(out: &mut W, summary: &Summary) -> io::Result<()> 
     for letter in LETTERS {
         let count = summary.tally.count(letter);
         if count > 0 {
-            let byte = char::from(letter.byte());
+            let byte = char::from(u8::from(letter));
             write!(out, "{mark} {byte} {count}")?;
             mark = ',';
         }

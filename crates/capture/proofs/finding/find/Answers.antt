@@ -1,12 +1,14 @@
-use Rattle.std.proofs.Common.{◌≡◌, ℕ, List, ◌++◌, length, drop, Some, Ok, Option, sym, ap, ◌∙◌, subst}
+use Rattle.std.proofs.Common.{◌≡◌, ℕ, List, ◌++◌, length, drop, Some, None, Ok, Option, Result, MatchOption, sym, refl, ap, ◌∙◌, subst, rules}
 use Rattle.std.proofs.lemmas.Result.{err_from_is_err_and}
 use Rattle.packet.specs.Values.{Value, encode}
-use Rattle.packet.specs.Decoding.{decode, packet_length, part, whole}
+use Rattle.fault.specs.declared.faults.PacketFault.{PacketFault}
+use Rattle.packet.specs.declared.packets.Packet.{Packet}
+use Rattle.packet.specs.Decoding.{Answer, decode, packet_length, part, whole}
 use Rattle.packet.specs.Laws.{Front}
 use Rattle.packet.specs.Meanings.{value_of, read_of}
-use Rattle.packet.specs.declared.reading.Read.{Read}
 use Rattle.packet.proofs.Lengths.{length_of_encode, length_fault, length_none, part_short}
-use Rattle.capture.specs.Finding.{Part, PacketAt}
+use Rattle.capture.specs.Finding.{Part, PacketAt, Tells}
+use Rattle.capture.specs.declared.finding.Found.{Found}
 use Rattle.capture.proofs.finding.find.Goals as goal
 
 a_part : (bs : List ℕ) → decode bs ≡ Ok part → Part bs
@@ -32,18 +34,16 @@ returns-in_default c =
     let e = sym (c.in_ok-size.ensures ∙ ap packet_length c.new-reader.ensures) in
     a_part bs (length_none bs (e ∙ ap (λ (o : Option ℕ). Ok o) c.in_default.is))
 
-pub returns-in-Part : goal.returns-in-Part
-returns-in-Part c =
-    let bs = c.args.bytes.now in
-    let e = sym (c.in_ok-read.ensures.answer ∙ ap decode c.new-reader.ensures) in
-    a_part bs (e ∙ ap (λ (o : Read). Ok (read_of o)) c.in-Part.is)
+-- what was read, seen as the answer
+told : (bs : List ℕ) (size : ℕ) (o : Option Packet) (m : Option Found) → packet_length bs ≡ Ok (Some size) → decode bs ≡ Ok (read_of o) → ((v : Value) → ◌≡◌ {A = Result Answer PacketFault} (Ok (read_of o)) (Ok (whole v)) → Front v bs) → MatchOption o (m ≡ None) (λ p. m ≡ Some (record { packet = p; size = size })) → Tells bs (Ok m)
+told bs size None m l e f h = rw h (a_part bs e)
+told bs size (Some p) m l e f h = rw h (a_packet bs (value_of p) size e (f (value_of p) refl) l)
 
-pub returns-in-Whole : goal.returns-in-Whole
-returns-in-Whole c =
+pub returns : goal.returns
+returns c =
     let bs = c.args.bytes.now in
-    let v = value_of c.in-Whole.packet in
     let same = c.new-reader.ensures in
     let t = c.in_ok-read.ensures in
-    let q = ap (λ (o : Read). Ok (read_of o)) c.in-Whole.is in
-    let e = sym (c.in_ok-size.ensures ∙ ap packet_length same) ∙ ap (λ (o : Option ℕ). Ok o) c.in-Some.is in
-    a_packet bs v c.in-Some.size (sym (t.answer ∙ ap decode same) ∙ q) (subst (λ (x : List ℕ). Front v x) same (t.front v q)) e
+    let l = sym (c.in_ok-size.ensures ∙ ap packet_length same) ∙ ap (λ (o : Option ℕ). Ok o) c.in-Some.is in
+    let h : MatchOption c.in_ok-read.field-0 (c.map.result ≡ None) (λ p. c.map.result ≡ Some (record { packet = p; size = c.in-Some.size })) = search rules in
+    told bs c.in-Some.size c.in_ok-read.field-0 c.map.result l (sym (t.answer ∙ ap decode same)) (λ v q. subst (λ (x : List ℕ). Front v x) same (t.front v q)) h
