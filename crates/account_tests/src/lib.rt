@@ -79,8 +79,14 @@ mod tests {
     fn numbers(rt: HostRuntime) -> Result<(), Fail> {
         let mut accounts = Accounts::new();
         let _ = accounts.add(b"mm01", b"desk1", b"fill1.0")?;
-        assert_eq!(rt; u8::from(accounts.decide(login(b"MM01 ", 0, 4), 7, 3)), b' ');
-        assert_eq!(rt; u8::from(accounts.decide(login(b"MM01 ", 0, 5), 7, 3)), b'N');
+        assert_eq!(rt;
+            u8::from(accounts.decide(login(b"MM01 ", 0, 4), 7, 3)),
+            b' '
+        );
+        assert_eq!(rt;
+            u8::from(accounts.decide(login(b"MM01 ", 0, 5), 7, 3)),
+            b'N'
+        );
         let last = login(b"mm01 ", 7, u64::MAX);
         assert_eq!(rt; u8::from(accounts.decide(last, 7, u64::MAX - 2)), b'N');
         assert_eq!(rt; u8::from(accounts.decide(last, 7, u64::MAX - 1)), b' ');
@@ -94,8 +100,14 @@ mod tests {
         let _ = accounts.add(b"mm01", b"desk1", b"fill1.0")?;
         let _ = accounts.add(b"mm02", b"desk1", b"fill1.0")?;
         assert!(rt; accounts.admit(login(b"mm02 ", 0, 0), 7, 3).is_ok());
-        assert_eq!(rt; u8::from(accounts.decide(login(b"mm02 ", 6, 9), 7, 3)), b'L');
-        assert_eq!(rt; u8::from(accounts.decide(login(b"mm01 ", 6, 9), 7, 3)), b'S');
+        assert_eq!(rt;
+            u8::from(accounts.decide(login(b"mm02 ", 6, 9), 7, 3)),
+            b'L'
+        );
+        assert_eq!(rt;
+            u8::from(accounts.decide(login(b"mm01 ", 6, 9), 7, 3)),
+            b'S'
+        );
         assert!(rt; accounts.admit(login(b"mm02 ", 0, 0), 7, 3).is_err());
         accounts.unmark(0);
         assert!(rt; accounts.admit(login(b"mm02 ", 0, 0), 7, 3).is_err());
