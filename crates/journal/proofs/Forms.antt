@@ -1,5 +1,5 @@
 -- The saved form tells the log: where a saved log goes on, a record stands.
-use Rattle.std.proofs.Common.{◌≡◌, ℕ, suc, ◌-◌, ◌<◌, ◌≤◌, List, [], ◌∷◌, ◌++◌, length, get_or, take, drop, is_some, Ok, Err, Result, sym, refl, ap, ◌∙◌, inl, inr, arith}
+use Rattle.std.proofs.Common.{◌≡◌, ℕ, suc, ◌-◌, ◌<◌, ◌≤◌, List, [], ◌∷◌, ◌++◌, length, get_or, take, drop, is_some, Err, sym, refl, ap, ◌∙◌, inl, inr, arith}
 use Rattle.std.specs.List.{flat_map}
 use Rattle.std.proofs.lemmas.List.{append_assoc, append_cancel_left, take-append-drop, take-take, take_all, drop-append-le, length-append, length-take-le, length-drop}
 use Rattle.std.proofs.lemmas.Bool.{cases_eq, cases_order}
@@ -14,9 +14,6 @@ use Rattle.journal.specs.Laws.{SavedOnce, SavedIsSound, BrokenOnce, BrokenHasAFa
 -- no message is too long
 abbrev Short : List (List ℕ) → Type 0
 Short ms = (k : ℕ) → length (get_or ms k []) ≤ message_limit
-
-never : {X : Type 0} {r : Result X RecordFault} {x : X} {f : RecordFault} → r ≡ Ok x → r ≡ Err f → ⊥
-never p q = let z : ◌≡◌ {A = ℕ} 0 1 = cc in omega arith
 
 -- two records at the front of the same bytes hold the same message
 same_message : (m m' x y : List ℕ) → length m ≤ message_limit → length m' ≤ message_limit → message_record m ++ x ≡ message_record m' ++ y → (m ≡ m') × (x ≡ y)
@@ -70,21 +67,21 @@ no_fault b s s' ms ms' p q f sav sav' tp tq lt le bad =
           let none = ap (λ t. length (flat_map message_record t)) (sav'.silent (omega arith)) in
           let all = ap length on.1 ∙ length-append (flat_map message_record ms) (drop p c) in
           omega arith
-      | inr nz ↦ never (ap (message_of s) whole ∙ message_reads_back s m (next.1 ++ drop q b) (omega arith) next.3) bad
+      | inr nz ↦ cc (sym (ap (message_of s) whole ∙ message_reads_back s m (next.1 ++ drop q b) (omega arith) next.3) ∙ bad)
     ]
 
 pub saved_once : SavedOnce
 saved_once s s' ms ms' a b e = (ap (λ t. get_or t 4 0) e, messages_once ms ms' a.short b.short (ap (drop 5) e))
 
 pub saved_is_sound : SavedIsSound
-saved_is_sound s ms place sav (front f e) = never (session_reads_back s (flat_map message_record ms)) e
+saved_is_sound s ms place sav (front f e) = cc (sym (session_reads_back s (flat_map message_record ms)) ∙ e)
 saved_is_sound s ms place sav (later s' ms' p f sav' is lt e) = no_fault (saved s ms) s' s ms' ms p (length (saved s ms)) f sav' sav is (take_all (length (saved s ms)) (saved s ms) (omega arith)) lt (omega arith) e
 
 -- bytes with a saved log at their front have a session record there
 fronted : (b : List ℕ) (s : ℕ) (ms : List (List ℕ)) (p : ℕ) (f : RecordFault) → take p b ≡ saved s ms → session_of b ≡ Err f → ⊥
 fronted b s ms p f is e =
     let whole : b ≡ session_record s ++ (flat_map message_record ms ++ drop p b) = sym (take-append-drop p b) ∙ ap (λ t. t ++ drop p b) is in
-    never (ap session_of whole ∙ session_reads_back s (flat_map message_record ms ++ drop p b)) e
+    cc (sym (ap session_of whole ∙ session_reads_back s (flat_map message_record ms ++ drop p b)) ∙ e)
 
 pub broken_once : BrokenOnce
 broken_once b x y (front f e) (front f' e') = refl

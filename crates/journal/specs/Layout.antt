@@ -2,11 +2,9 @@
 --
 --     0            5                    edge 1                      used
 --     | session 7  | 4D 47 length  m1   | 4D 47 length  m2  | ..     |  free ..
-use Rattle.std.specs.Prelude.{◌≡◌, ℕ, ◌+◌, ◌-◌, ◌/◌, Bool, cond, ◌&&◌, List, length, take, Ok, Err, Result, nat_le}
+use Rattle.std.specs.Prelude.{◌≡◌, ℕ, ◌-◌, ◌/◌, Bool, ◌&&◌, List, length, take, Result, nat_le}
 use Rattle.fault.specs.declared.refusals.Refusal.{Refusal}
-use Rattle.fault.specs.declared.refusals.Refusal.TheVariants.{NoSuchMessage}
-use Rattle.message_log.specs.Meaning.{Meaning, size_limit, taken}
-use Rattle.message_log.specs.Calls.{has}
+use Rattle.message_log.specs.Meaning.{Meaning, size_limit}
 use Rattle.pool.specs.Parts.{edge, parts}
 use Rattle.pool.specs.Kept.{used, placed as placed_behind}
 use Rattle.pool.specs.declared.parts.Parts.{Parts}

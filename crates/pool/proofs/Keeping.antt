@@ -1,10 +1,9 @@
 -- What the facts of `Parts` say of the log that it means.
-use Rattle.std.proofs.Common.{◌≡◌, ℕ, suc, ◌+◌, ◌-◌, ◌<◌, ◌≤◌, true, false, List, [], ◌∷◌, ◌++◌, length, get_or, take, set, Ok, Err, Result, sym, refl, ap, ◌∙◌, inl, inr, arith}
+use Rattle.std.proofs.Common.{◌≡◌, ℕ, suc, ◌+◌, ◌-◌, ◌<◌, ◌≤◌, true, false, List, [], ◌∷◌, ◌++◌, length, get_or, take, set, Ok, Err, sym, refl, ap, ◌∙◌, inl, inr, arith}
 use Rattle.std.specs.List.{between}
 use Rattle.std.proofs.lemmas.List.FromFn.{take-map-range_with_len}
 use Rattle.std.proofs.lemmas.List.{get_or_past, length-set}
 use Rattle.std.proofs.lemmas.Bool.{cases_lt, cases_eq, and_from, and_left, and_right, le-leb, lt-leb, cond-true, cond-false, le-ltb, ne_eqb}
-use Rattle.fault.specs.declared.refusals.Refusal.{Refusal}
 use Rattle.fault.specs.declared.refusals.Refusal.TheVariants.{NoSuchMessage}
 use Rattle.layout.specs.Limits.{message_limit}
 use Rattle.message_log.specs.Meaning.{taken, room, added, Sound}
@@ -16,9 +15,6 @@ use Rattle.pool.specs.declared.parts.Parts.{Parts}
 use Rattle.pool.proofs.Runs.{bytes_between}
 use Rattle.pool.proofs.Filed.{edge_mono, length_parts, get_or_parts, taken_parts, short_parts}
 use Rattle.pool.proofs.Edges.{parts_set}
-
-err_ok : {x : ℕ} {r : Refusal} → ◌≡◌ {A = Result ℕ Refusal} (Err r) (Ok x) → ⊥
-err_ok e = let z : ◌≡◌ {A = ℕ} 0 1 = cc in omega arith
 
 -- these hold of any such messages
 module _ (base gap : ℕ) (p : Parts base gap) where
@@ -94,21 +90,22 @@ module _ (base gap : ℕ) (p : Parts base gap) where
   pub placed_ok : (k start : ℕ) → placed base (kept base gap p) k ≡ Ok start → (0 < k) × (k ≤ p.count) × (start ≡ edge base p.ends.items (k - 1))
   placed_ok k start e =
       elim (cases_eq k 0) [
-        | inl z ↦ absurd (err_ok (sym (placed_none k (λ pos. absurd (omega arith))) ∙ e))
+        | inl z ↦ absurd (cc (sym (placed_none k (λ pos. absurd (omega arith))) ∙ e))
         | inr nz ↦ elim (cases_lt p.count k) [
-          | inl past ↦ absurd (err_ok (sym (placed_none k (λ pos. past)) ∙ e))
+          | inl past ↦ absurd (cc (sym (placed_none k (λ pos. past)) ∙ e))
           | inr le ↦ (omega arith, le, let same = sym (placed_kept k (omega arith) le) ∙ e in cc)
         ]
       ]
 
   -- message k, from 1, lies from behind its gap up to its end
-  pub bounds_kept : (k start end : ℕ) → placed base (kept base gap p) k ≡ Ok start → end ≡ edge base p.ends.items k → (0 < k) × (k ≤ p.count) × (between (start + gap) end p.memory.items ≡ get_or (parts p.memory.items (edge base p.ends.items) gap p.count) (k - 1) []) × (start + gap ≤ end) × (end ≤ length p.memory.items)
-  bounds_kept k start end ok e =
+  pub bounds_kept : (k start end : ℕ) (ends : List ℕ) → placed base (kept base gap p) k ≡ Ok start → ends ≡ p.ends.items → end ≡ edge base ends k → (0 < k) × (k ≤ p.count) × (between (start + gap) end p.memory.items ≡ get_or (parts p.memory.items (edge base p.ends.items) gap p.count) (k - 1) []) × (start + gap ≤ end) × (end ≤ length p.memory.items)
+  bounds_kept k start end ends ok same e =
       let at = placed_ok k start ok in
       let here = get_or_parts p.memory.items (edge base p.ends.items) gap p.count (k - 1) (omega arith) in
       let up = p.rising (k - 1) (omega arith) in
       let z : suc (k - 1) ≡ k = omega arith in
       let next = ap (edge base p.ends.items) z in
+      let last = e ∙ ap (λ t. edge base t k) same in
       let top = edge_mono (edge base p.ends.items) gap p.count p.rising k at.1 in
       let in_memory = within_kept in
       (at.0, at.1, cc, omega arith, omega arith)

@@ -19,6 +19,7 @@ pub fn copy_out(message: &[u8], buffer: &mut [u8]) -> Result<usize, Refusal>
     Ok(len)
 }
 
+// It states what every proof knows of such a slice by its type, so nothing calls it.
 /// Says that a slice of bytes holds bytes.
 pub fn are_bytes(bytes: &[u8])
     ensures { Bytes bytes.now }

@@ -1,9 +1,10 @@
 //! What the logs share that keep their messages in one run of bytes.
 //!
 //! The messages lie one behind the other, each behind a gap of fixed length, and a table has where each one
-//! ends. Here are the moves of whole slices that such a log needs, and in `specs/` what its messages are.
+//! ends. Here is `Parts`, which keeps them so and answers for them as a log does, and in `specs/` what they mean.
 //!
-//! Left out: the logs themselves, and what stands in the gaps.
+//! Left out: what stands before the first message and in the gaps, which the logs say. In the order a reader meets
+//! them: `Parts`, `copy_out`, `edge_at`, `are_bytes`.
 #![tactic(auto)]
 
 pub mod bytes;

@@ -52,26 +52,23 @@ mark_session x y e = search rules
 mark_message : (x y : ℕ) → mark_of x y ≡ Ok Message → (x ≡ 0x4D) × (y ≡ 0x47)
 mark_message x y e = search rules
 
-never : {X : Type 0} {x : X} {f : RecordFault} → ◌≡◌ {A = Result X RecordFault} (Err f) (Ok x) → ⊥
-never e = let z : ◌≡◌ {A = ℕ} 0 1 = cc in omega arith
-
 session_inner : (r : Result Mark RecordFault) (body : List ℕ) (s : ℕ) → marked r (λ mark. session_in mark body) ≡ Ok s → (r ≡ Ok Session) × (body ≡ s ∷ [])
-session_inner (Ok Session) [] s e = absurd (never e)
+session_inner (Ok Session) [] s e = absurd cc
 session_inner (Ok Session) (t ∷ []) s e = (refl, cc)
-session_inner (Ok Session) (t ∷ u ∷ more) s e = absurd (never e)
-session_inner (Ok Message) body s e = absurd (never e)
-session_inner (Err f) body s e = absurd (never e)
+session_inner (Ok Session) (t ∷ u ∷ more) s e = absurd cc
+session_inner (Ok Message) body s e = absurd cc
+session_inner (Err f) body s e = absurd cc
 
 message_inner : (r : Result Mark RecordFault) (s : ℕ) (body m : List ℕ) → marked r (λ mark. message_in s mark body) ≡ Ok m → (r ≡ Ok Message) × (body ≡ m) × (length body ≤ message_limit) × (0 < s)
-message_inner (Ok Session) s body m e = absurd (never e)
+message_inner (Ok Session) s body m e = absurd cc
 message_inner (Ok Message) s body m e =
     elim (cases_lt message_limit (length body)) [
-      | inl l ↦ absurd (never (sym (cond-true _ _ _ (lt-ltb message_limit (length body) l)) ∙ e))
+      | inl l ↦ absurd (cc (sym (cond-true _ _ _ (lt-ltb message_limit (length body) l)) ∙ e))
       | inr l ↦
           let e' = sym (cond-false _ _ _ (le-ltb message_limit (length body) l)) ∙ e in
           (refl, search rules, l, search rules)
     ]
-message_inner (Err f) s body m e = absurd (never e)
+message_inner (Err f) s body m e = absurd cc
 
 -- the same bytes, from the parts that were read
 rebuilt : (x y lo hi : ℕ) (tail m : List ℕ) → take (lo + 256 * hi) tail ≡ m → lo + 256 * hi ≤ length tail → lo < 256 → hi < 256 → (length m ≡ lo + 256 * hi) × (◌≡◌ {A = List ℕ} (x ∷ y ∷ lo ∷ hi ∷ tail) (x ∷ y ∷ length m % 256 ∷ length m / 256 % 256 ∷ (m ++ drop (4 + length m) (x ∷ y ∷ lo ∷ hi ∷ tail))))
@@ -86,13 +83,13 @@ rebuilt x y lo hi tail m is h l u =
     (long, cc)
 
 pub message_was_written : MessageWasWritten
-message_was_written s [] m b e = absurd (never e)
-message_was_written s (x ∷ []) m b e = absurd (never e)
-message_was_written s (x ∷ y ∷ []) m b e = absurd (never e)
-message_was_written s (x ∷ y ∷ lo ∷ []) m b e = absurd (never e)
+message_was_written s [] m b e = absurd cc
+message_was_written s (x ∷ []) m b e = absurd cc
+message_was_written s (x ∷ y ∷ []) m b e = absurd cc
+message_was_written s (x ∷ y ∷ lo ∷ []) m b e = absurd cc
 message_was_written s (x ∷ y ∷ lo ∷ hi ∷ tail) m b e =
     elim (cases_lt (length tail) (lo + 256 * hi)) [
-      | inl l ↦ absurd (never (sym (framed_cut x y lo hi tail (message_in s) l) ∙ e))
+      | inl l ↦ absurd (cc (sym (framed_cut x y lo hi tail (message_in s) l) ∙ e))
       | inr l ↦
           let inner = message_inner (mark_of x y) s (take (lo + 256 * hi) tail) m (sym (framed_at x y lo hi tail (message_in s) l) ∙ e) in
           let mark = mark_message x y inner.0 in
@@ -102,14 +99,14 @@ message_was_written s (x ∷ y ∷ lo ∷ hi ∷ tail) m b e =
     ]
 
 pub session_was_written : SessionWasWritten
-session_was_written [] s b e = absurd (never e)
-session_was_written (x ∷ []) s b e = absurd (never e)
-session_was_written (x ∷ y ∷ []) s b e = absurd (never e)
-session_was_written (x ∷ y ∷ lo ∷ []) s b e = absurd (never e)
+session_was_written [] s b e = absurd cc
+session_was_written (x ∷ []) s b e = absurd cc
+session_was_written (x ∷ y ∷ []) s b e = absurd cc
+session_was_written (x ∷ y ∷ lo ∷ []) s b e = absurd cc
 session_was_written (x ∷ y ∷ lo ∷ hi ∷ tail) s b e =
     let e' = sym (cond-false _ _ _ (ne_eqb (length (x ∷ y ∷ lo ∷ hi ∷ tail)) 0 (λ z. omega arith))) ∙ e in
     elim (cases_lt (length tail) (lo + 256 * hi)) [
-      | inl l ↦ absurd (never (sym (framed_cut x y lo hi tail session_in l) ∙ e'))
+      | inl l ↦ absurd (cc (sym (framed_cut x y lo hi tail session_in l) ∙ e'))
       | inr l ↦
           let inner = session_inner (mark_of x y) (take (lo + 256 * hi) tail) s (sym (framed_at x y lo hi tail session_in l) ∙ e') in
           let mark = mark_session x y inner.0 in
