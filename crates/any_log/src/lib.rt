@@ -11,12 +11,21 @@ ghost use Rattle.any_log.specs.declared.AnyLog.TheVariants.{Journal, Indexed};
 use fault::Refusal;
 use message_log::Log;
 
-// An enum, with a match in each method: a program's choice of a log is handed out, and a `dyn Log` may not be.
 /// A journal or an indexed log.
 #[derive(Drop)]
 pub enum AnyLog {
     Journal(journal::Journal),
     Indexed(indexed::Indexed),
+}
+
+/// What a call answers at the log in the enum, whichever kind it is.
+macro_rules! at_each {
+    ($any:expr, $log:ident => $call:expr) => {
+        match $any {
+            AnyLog::Journal($log) => $call,
+            AnyLog::Indexed($log) => $call,
+        }
+    };
 }
 
 impl Log for AnyLog {
@@ -25,51 +34,30 @@ impl Log for AnyLog {
     ghost sound = { elim [ Journal s ↦ journal_sound s | Indexed s ↦ indexed_sound s ] };
 
     fn session(&self) -> u8 {
-        match self {
-            AnyLog::Journal(log) => log.session(),
-            AnyLog::Indexed(log) => log.session(),
-        }
+        at_each!(self, log => log.session())
     }
 
     fn count(&self) -> usize {
-        match self {
-            AnyLog::Journal(log) => log.count(),
-            AnyLog::Indexed(log) => log.count(),
-        }
+        at_each!(self, log => log.count())
     }
 
     fn length_of(&self, n: usize) -> Result<usize, Refusal> {
-        match self {
-            AnyLog::Journal(log) => log.length_of(n),
-            AnyLog::Indexed(log) => log.length_of(n),
-        }
+        at_each!(self, log => log.length_of(n))
     }
 
     fn would_take(&self, bytes: usize) -> Result<(), Refusal> {
-        match self {
-            AnyLog::Journal(log) => log.would_take(bytes),
-            AnyLog::Indexed(log) => log.would_take(bytes),
-        }
+        at_each!(self, log => log.would_take(bytes))
     }
 
     fn begin(&mut self, session: u8) -> Result<(), Refusal> {
-        match self {
-            AnyLog::Journal(log) => log.begin(session),
-            AnyLog::Indexed(log) => log.begin(session),
-        }
+        at_each!(self, log => log.begin(session))
     }
 
     fn append(&mut self, message: &[u8]) -> Result<(), Refusal> {
-        match self {
-            AnyLog::Journal(log) => log.append(message),
-            AnyLog::Indexed(log) => log.append(message),
-        }
+        at_each!(self, log => log.append(message))
     }
 
     fn read(&self, n: usize, buffer: &mut [u8]) -> Result<usize, Refusal> {
-        match self {
-            AnyLog::Journal(log) => log.read(n, buffer),
-            AnyLog::Indexed(log) => log.read(n, buffer),
-        }
+        at_each!(self, log => log.read(n, buffer))
     }
 }
