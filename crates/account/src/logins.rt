@@ -35,6 +35,7 @@ impl Accounts {
     pub fn admit(&mut self, login: Login<'_>, session: u8, highest: u64) -> Result<usize, Status>
         ensures { Admits self.old.rows self.new.rows session highest (asked login.entry) result }
     {
+        // No answer is only wrapped anew here: it takes both, the decision and the row.
         match (
             self.decide(login, session, highest),
             self.lookup(login.user, login.computer),

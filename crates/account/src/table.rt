@@ -14,6 +14,7 @@ use std::marker::Model;
 pub const CAPACITY: usize = 8;
 
 /// A table of accounts. A user and a computer ID stand in one row at most.
+// An array and a count, and no `Vec`: a table is eight rows and takes no heap, a rule of the project.
 #[derive(Drop)]
 pub struct Accounts {
     rows: [Row; CAPACITY],
@@ -65,6 +66,7 @@ impl Accounts {
         &self.rows[0..self.count]
     }
 
+    // Two texts and no struct of them: a login request has two, and every definition of a lookup takes two.
     /// The row in use of a user and a computer ID, where capital letters count as small ones.
     pub fn lookup(&self, user: &[u8], computer: &[u8]) -> Option<usize>
         ensures answer { result ≡ found self.now.rows user.now computer.now }

@@ -63,6 +63,7 @@ pub fn is_passed_over(words: &[Word<'_>]) -> bool
     }
 }
 
+// Written out and not derived: the contracts say which case `?` makes.
 impl From<Refusal> for Malformed {
     ghost from_gives = { λ _ r. r ≡ BadField };
 

@@ -16,6 +16,7 @@ use std::io::Read;
 use std::marker::Model;
 
 /// Bytes that were read and are not explained yet: as many as the longest packet has, and no more.
+// Fixed memory with two places in it: a frame holds one packet at most, and takes no heap.
 #[derive(Drop)]
 pub struct Frame {
     memory: [u8; PACKET_LIMIT],

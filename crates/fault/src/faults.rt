@@ -179,6 +179,7 @@ impl From<LogFault> for Fault {
     }
 }
 
+// Written out, as that of `Layer`: std derives no `Display`, and thiserror derives that of errors.
 impl fmt::Display for Field {
     fn fmt<W: fmt::Write>(&self, f: &mut fmt::Formatter<W>) -> fmt::Result {
         f.write_str(match self {

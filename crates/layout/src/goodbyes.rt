@@ -38,6 +38,7 @@ impl TryFrom<u8> for GoodByeReason {
     }
 }
 
+// Written out: std derives no `Display`, and thiserror derives that of errors.
 impl fmt::Display for GoodByeReason {
     fn fmt<W: fmt::Write>(&self, f: &mut fmt::Formatter<W>) -> fmt::Result {
         f.write_str(match self {

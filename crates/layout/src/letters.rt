@@ -108,6 +108,7 @@ impl Letter {
     }
 }
 
+// Written out: std derives no `Display`, and thiserror derives that of errors.
 impl fmt::Display for Letter {
     fn fmt<W: fmt::Write>(&self, f: &mut fmt::Formatter<W>) -> fmt::Result {
         f.write_str(match self {

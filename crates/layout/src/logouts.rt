@@ -40,6 +40,7 @@ impl TryFrom<u8> for LogoutReason {
     }
 }
 
+// Written out: std derives no `Display`, and thiserror derives that of errors.
 impl fmt::Display for LogoutReason {
     fn fmt<W: fmt::Write>(&self, f: &mut fmt::Formatter<W>) -> fmt::Result {
         f.write_str(match self {

@@ -18,6 +18,7 @@ pub fn reading_goes_by_the_front()
 {}
 
 /// The worked examples of packets hold of the definition of reading.
+#[tactic(auto, unfolding(crate::specs::Decoding::decode))]
 pub fn examples_hold()
     ensures { ExamplesHold }
 {}

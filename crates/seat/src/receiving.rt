@@ -40,6 +40,7 @@ impl Seat {
         if self.standing.is_apart() {
             return Err(Refusal::WrongPhase);
         }
+        // No `?`: a fault ends the connection here.
         match self.hear(log, down, frame) {
             Ok(received) => Ok(received),
             Err(Fault::Packet(fault)) => {

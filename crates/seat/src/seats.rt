@@ -12,7 +12,8 @@ use standing::Standing;
 #[derive(Clone, Copy)]
 pub struct Seat {
     pub(crate) standing: Standing,
-    /// How many bytes of a packet that is not whole yet stand at the front of its frame's buffer.
+    /// How many bytes of a packet that is not whole yet stand at the front of its frame's buffer, which is lent anew at
+    /// each call.
     pub(crate) filled: usize,
     /// Ticks since it wrote a packet, and since it took a byte.
     pub(crate) unsent: u16,

@@ -13,6 +13,7 @@ use line::{Line, SteadyLine, allow, is_line_size};
 use memory::lay;
 
 /// A line whose memory is used from the front, and anew once nothing waits.
+// No `VecDeque`: the memory is given once, and it is free again only when nothing waits.
 #[derive(Drop)]
 pub struct Straight {
     bytes: Vec<u8>,

@@ -5,6 +5,7 @@ use std::fmt;
 #[derive(Clone, Copy)]
 pub struct Text<'a>(pub &'a [u8]);
 
+// Written out: what it escapes is its own.
 impl fmt::Display for Text<'_> {
     fn fmt<W: fmt::Write>(&self, f: &mut fmt::Formatter<W>) -> fmt::Result {
         f.write_str("\"")?;

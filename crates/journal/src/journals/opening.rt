@@ -28,6 +28,7 @@ fn index(heap: Global, len: usize) -> Result<Vec<u32>, Refusal>
 fn with_index(heap: Global, memory: Vec<u8>) -> Result<(Vec<u8>, Vec<u32>), Unmade<Vec<u8>>>
     ensures { MatchResult result (λ p. (p.0 ≡ memory) × (makes (vec_len memory) ≡ true) × (vec_len p.1 ≡ places_of (vec_len memory))) (λ u. (u.given ≡ memory) × Unmakable (vec_len memory) u.refusal) }
 {
+    // No `map_err`: both arms hand the memory on, and a closure would have taken it.
     match index(heap, memory.len()) {
         Ok(ends) => Ok((memory, ends)),
         Err(refusal) => Err(Unmade {
