@@ -1,10 +1,10 @@
 -- Rows that are marked, and a row that joins.
-use Rattle.std.proofs.Common.{◌≡◌, ℕ, zero, suc, ◌+◌, ◌<◌, ◌≤◌, Bool, false, cond, ◌≢◌, List, [], ◌∷◌, length, take, set, Some, None, sym, refl, ap, ◌∙◌, inl, inr, arith}
+use Rattle.std.proofs.Common.{◌≡◌, ℕ, zero, suc, ◌+◌, ◌<◌, ◌≤◌, Bool, false, cond, ◌≢◌, List, [], ◌∷◌, length, take, drop, set, Some, None, sym, refl, ap, ◌∙◌, inl, inr, arith, length-drop}
 use Rattle.std.proofs.lemmas.List.{get_or-take, get_or-set_same, get_or-set_other, length-set, length-take-le}
 use Rattle.std.proofs.lemmas.Bool.{cases_lt}
 use Rattle.account.specs.declared.rows.Row.{Row}
 use Rattle.account.specs.Rows.{matches, found, found_from, row_at, no_row, with_mark, marking}
-use Rattle.account.specs.Table.{in_use, Single}
+use Rattle.account.specs.Table.{Whole, in_use, Single}
 use Rattle.account.specs.Laws.{MarksOneRow, FoundAsBefore}
 use Rattle.account.proofs.Only.{missed}
 
@@ -23,6 +23,14 @@ pub in_use_single : (rows : List Row) (n : ℕ) → n ≤ length rows → Single
 in_use_single rows n within single i j (lt, below) =
     let count = length-take-le n rows within in
     rw (get_or-take n rows i no_row (omega arith), get_or-take n rows j no_row (omega arith)) (single i j (lt, omega arith))
+
+-- what the rows in use and the free ones are together
+pub whole_in_use : (rows : List Row) (n : ℕ) → length rows ≡ 8 → n ≤ 8 → Single rows n → Whole (record { rows = in_use rows n; free = drop n rows })
+whole_in_use rows n eight within single =
+    record {
+      eight = omega (arith, length-take-le n rows (omega arith), length-drop n rows);
+      single = in_use_single rows n (omega arith) single;
+    }
 
 -- a row that matches none of those in use can stand behind them
 pub joins_single : (rows : List Row) (n : ℕ) (row : Row) → n < length rows → Single rows n → found (in_use rows n) row.account.user row.account.computer ≡ None → Single (set rows n row) (n + 1)

@@ -1,5 +1,5 @@
 -- The account table: the rows in use, and how one joins them.
-use Rattle.std.specs.Prelude.{◌≡◌, ℕ, ◌<◌, Bool, true, false, cond, List, [], ◌∷◌, ◌++◌, length, take, is_some, Ok, Err, Result, nat_lt}
+use Rattle.std.specs.Prelude.{◌≡◌, ℕ, ◌+◌, ◌<◌, Bool, true, false, cond, List, [], ◌∷◌, ◌++◌, length, take, is_some, Ok, Err, Result, nat_lt}
 use Rattle.fault.specs.declared.refusals.Refusal.{Refusal}
 use Rattle.fault.specs.declared.refusals.Refusal.TheVariants.{AccountTaken}
 use Rattle.account.specs.declared.fields.Account.{Account}
@@ -19,6 +19,11 @@ in_use rows count = take count rows
 -- a user and a computer ID stand in one row at most: of the first so many rows, none matches a later one
 abbrev pub Single : List Row → ℕ → Type 0
 Single rows count = (i j : ℕ) → (i < j) × (j < count) → matches (row_at rows i) (row_at rows j).account.user (row_at rows j).account.computer ≡ false
+
+-- what holds of every table: it has eight rows, and a user and a computer ID stand in one of those in use at most
+pub record Whole (t : Table) : Type 0 where
+  pub eight : length t.rows + length t.free ≡ 8
+  pub single : Single t.rows (length t.rows)
 
 -- the row of an account that nobody is logged in by
 abbrev pub fresh : Account → Row

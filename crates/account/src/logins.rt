@@ -2,6 +2,7 @@
 ghost use Rattle.std.specs.Prelude.{◌≡◌};
 ghost use Rattle.account.specs.Logins.{status_for};
 ghost use Rattle.account.specs.Requests.{asked};
+ghost use Rattle.account.specs.Table.{Whole};
 ghost use Rattle.account.specs.Laws.{Admits};
 
 use crate::table::Accounts;
@@ -15,7 +16,8 @@ impl Accounts {
     /// What a login is answered by a hub whose log has this session and highest number: the status of the first
     /// check that it fails.
     pub fn decide(&self, login: Login<'_>, session: u8, highest: u64) -> Status
-        ensures { result ≡ status_for self.now.rows session highest (asked login.entry) }
+        ensures status { result ≡ status_for self.now.rows session highest (asked login.entry) }
+        ensures whole { Whole self.now }
     {
         let rows = self.rows();
         match self.lookup(login.user, login.computer) {
@@ -33,7 +35,8 @@ impl Accounts {
     /// Decides a login and, where it is accepted, marks its row and answers the row's place. Otherwise answers
     /// the status, which is never `Accepted`, and changes nothing.
     pub fn admit(&mut self, login: Login<'_>, session: u8, highest: u64) -> Result<usize, Status>
-        ensures { Admits self.old.rows self.new.rows session highest (asked login.entry) result }
+        ensures admits { Admits self.old.rows self.new.rows session highest (asked login.entry) result }
+        ensures whole { Whole self.new }
     {
         // No answer is only wrapped anew here: it takes both, the decision and the row.
         match (

@@ -1,7 +1,7 @@
 //! The account table.
 ghost use Rattle.std.specs.Prelude.{◌≡◌, ℕ, ◌+◌, ◌<◌, ◌≤◌, true, false, [], ◌∷◌, ◌++◌, length, drop, None, Option, ◌≢◌};
 ghost use Rattle.account.specs.Rows.{found, row_at, marking};
-ghost use Rattle.account.specs.Table.{Table, in_use, Single, joining, place_of, joined};
+ghost use Rattle.account.specs.Table.{Table, Whole, in_use, Single, joining, place_of, joined};
 ghost use Rattle.account.specs.Laws.{Finds};
 
 use crate::fields::Account;
@@ -14,7 +14,7 @@ use std::marker::Model;
 pub const CAPACITY: usize = 8;
 
 /// A table of accounts. A user and a computer ID stand in one row at most.
-// An array and a count, and no `Vec`: a table is eight rows and takes no heap, a rule of the project.
+// An array and a count beside it: a table is an array of eight rows, a rule of the project.
 #[derive(Drop)]
 pub struct Accounts {
     rows: [Row; CAPACITY],
@@ -33,7 +33,8 @@ impl Model for Accounts {
 impl Accounts {
     /// A table with no row in use.
     pub fn new() -> Accounts
-        ensures { result.rows ≡ [] }
+        ensures rows { result.rows ≡ [] }
+        ensures whole { Whole result }
     {
         let account = Account {
             user: [b' '; 5],
@@ -52,7 +53,8 @@ impl Accounts {
 
     /// How many rows are in use.
     pub fn count(&self) -> usize
-        ensures { result ≡ length self.now.rows }
+        ensures count { result ≡ length self.now.rows }
+        ensures whole { Whole self.now }
     {
         self.rows().len()
     }
@@ -60,8 +62,7 @@ impl Accounts {
     /// The rows in use.
     pub fn rows(&self) -> &[Row]
         ensures rows { result.now ≡ self.now.rows }
-        ensures eight { length self.now.rows + length self.now.free ≡ 8 }
-        ensures single { Single self.now.rows (length self.now.rows) }
+        ensures whole { Whole self.now }
     {
         &self.rows[0..self.count]
     }
@@ -72,6 +73,7 @@ impl Accounts {
         ensures answer { result ≡ found self.now.rows user.now computer.now }
         ensures finds { Finds self.now.rows user.now computer.now result }
         ensures only { (o : Option ℕ) → Finds self.now.rows user.now computer.now o → result ≡ o }
+        ensures whole { Whole self.now }
     {
         find(self.rows(), user, computer)
     }
@@ -81,9 +83,10 @@ impl Accounts {
     pub fn add(&mut self, user: &[u8], computer: &[u8], protocol: &[u8]) -> Result<usize, Refusal>
         ensures answer { result ≡ place_of self.old.rows (joining self.old.rows user.now computer.now protocol.now) }
         ensures after { self.new.rows ≡ joined self.old.rows (joining self.old.rows user.now computer.now protocol.now) }
+        ensures whole { Whole self.new }
     {
+        let place = self.rows().len();
         let account = Account::new(user, computer, protocol)?;
-        let place = self.count;
         if place == CAPACITY {
             return Err(Refusal::AccountTaken);
         }
@@ -101,7 +104,8 @@ impl Accounts {
     fn push(&mut self, row: Row)
         requires room { length self.old.rows < 8 }
         requires absent { found self.old.rows row.account.user row.account.computer ≡ None }
-        ensures { self.new.rows ≡ self.old.rows ++ (row ∷ []) }
+        ensures rows { self.new.rows ≡ self.old.rows ++ (row ∷ []) }
+        ensures whole { Whole self.new }
     {
         self.rows[self.count] = row;
         self.count += 1;
@@ -112,6 +116,7 @@ impl Accounts {
         ensures after { self.new.rows ≡ marking self.old.rows row true }
         ensures others { (k : ℕ) → (k ≢ row) → row_at self.new.rows k ≡ row_at self.old.rows k }
         ensures free { self.new.free ≡ self.old.free }
+        ensures whole { Whole self.new }
     {
         self.set_mark(row, true);
     }
@@ -121,6 +126,7 @@ impl Accounts {
         ensures after { self.new.rows ≡ marking self.old.rows row false }
         ensures others { (k : ℕ) → (k ≢ row) → row_at self.new.rows k ≡ row_at self.old.rows k }
         ensures free { self.new.free ≡ self.old.free }
+        ensures whole { Whole self.new }
     {
         self.set_mark(row, false);
     }
@@ -130,6 +136,7 @@ impl Accounts {
         ensures after { self.new.rows ≡ marking self.old.rows row mark }
         ensures others { (k : ℕ) → (k ≢ row) → row_at self.new.rows k ≡ row_at self.old.rows k }
         ensures free { self.new.free ≡ self.old.free }
+        ensures whole { Whole self.new }
     {
         if row < self.count {
             self.rows[row].marked = mark;

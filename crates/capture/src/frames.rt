@@ -36,7 +36,8 @@ impl Model for Frame {
 impl Frame {
     /// A frame that holds nothing.
     pub fn new() -> Frame
-        ensures { result ≡ [] }
+        ensures held { result ≡ [] }
+        ensures short { length result ≤ packet_limit }
     {
         Frame {
             memory: [0; PACKET_LIMIT],
@@ -55,7 +56,8 @@ impl Frame {
 
     /// Passes over the first bytes held: so many of them, or all where there are fewer.
     pub fn pass(&mut self, count: usize)
-        ensures { self.new ≡ drop count self.old }
+        ensures held { self.new ≡ drop count self.old }
+        ensures short { length self.new ≤ packet_limit }
     {
         let held = self.to - self.from;
         self.from += count.min(held);
@@ -64,7 +66,8 @@ impl Frame {
     /// Reads once from the input, behind what is held, as much as the memory has room for. Gives the count of
     /// the bytes that came: 0 at the input's end, or where the frame is full.
     pub fn fill<R: Read>(&mut self, input: &mut R) -> io::Result<usize>
-        ensures { Filled self.old self.new result }
+        ensures held { Filled self.old self.new result }
+        ensures short { length self.new ≤ packet_limit }
     {
         let to = settle(&mut self.memory, self.from, self.to);
         self.from = 0;

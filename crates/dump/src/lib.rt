@@ -15,6 +15,7 @@ pub const ROW: usize = 16;
 /// The width of the hex column of a full row.
 const HEX_WIDTH: usize = 48;
 
+// By hand: the kit's crate for hex writes the pairs with nothing between them.
 /// The hex digit of a number below 16; of any other, that of its remainder.
 fn digit(n: u8) -> u8
     ensures { result ≡ digit_of (n % 16) }
@@ -30,6 +31,7 @@ pub fn hex(byte: u8) -> [u8; 3]
     [digit(byte / 16), digit(byte), b' ']
 }
 
+// By hand: the library has no word for it.
 /// A byte that is visible ASCII or a space; a full stop for any other.
 pub fn readable(byte: u8) -> u8
     ensures { result ≡ readable_of byte }

@@ -5,7 +5,7 @@
 //! refusals by their numbers. Each layer has a fault type of its own, and `?` passes it on through `From`.
 //!
 //! Left out: what finds the faults. The types, in the order a reader meets them: `Field`, `PacketFault`,
-//! `LogFault`, `Layer`, `Fault`, `Refusal`, `Unmade`.
+//! `LogFault`, `Layer`, `Fault`, `Refusal`, `Unmade`, `allow`.
 #![tactic(auto)]
 
 pub mod faults;
@@ -13,5 +13,5 @@ pub mod making;
 pub mod refusals;
 
 pub use faults::{Fault, Field, Layer, LogFault, PacketFault};
-pub use making::Unmade;
+pub use making::{Unmade, allow};
 pub use refusals::Refusal;

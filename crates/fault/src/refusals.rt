@@ -95,7 +95,7 @@ impl Refusal {
     }
 }
 
-// Written out and not derived, as that of `Fault`: a derived `From` has no contract.
+// Written out and not derived, as the next one and those of `Fault`: a derived `From` has no contract.
 impl From<PacketFault> for Refusal {
     ghost from_gives = { λ f r. r ≡ R.BadPacket f };
 

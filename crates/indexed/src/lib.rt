@@ -10,7 +10,7 @@ ghost use Rattle.message_log.specs.Calls.{Lent};
 ghost use Rattle.pool.specs.Kept.{kept};
 ghost use Rattle.indexed.specs.Pooled.{places_limit, makes, pooled};
 
-use fault::{Refusal, Unmade};
+use fault::{Refusal, Unmade, allow};
 use message_log::{Log, SIZE_LIMIT};
 use pool::{Parts, copy_out};
 
@@ -32,12 +32,8 @@ impl Indexed {
     pub fn new(pool: Vec<u8>, ends: Vec<u32>) -> Result<Indexed, Unmade<(Vec<u8>, Vec<u32>)>>
         ensures { MatchResult result (λ l. (makes (vec_len pool) (vec_len ends) ≡ true) × (⟦<Indexed as Log>⟧.view l ≡ pooled 0 pool.items ends.items 0)) (λ u. (makes (vec_len pool) (vec_len ends) ≡ false) × (u.refusal ≡ R.SizeOutOfRange) × (u.given ≡ (pool, ends))) }
     {
-        if pool.len() > POOL_LIMIT || ends.len() > TABLE_LIMIT {
-            return Err(Unmade {
-                refusal: Refusal::SizeOutOfRange,
-                given: (pool, ends),
-            });
-        }
+        let fits = pool.len() <= POOL_LIMIT && ends.len() <= TABLE_LIMIT;
+        let (pool, ends) = allow(fits, (pool, ends))?;
         Ok(Indexed {
             parts: Parts {
                 memory: pool,

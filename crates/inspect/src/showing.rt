@@ -22,6 +22,7 @@ impl<W: Write> Report<W> {
             (Ok(place), Ok(message)) => {
                 let len = message.len();
                 writeln!(self.out, "  message {n} at {place}, {len} bytes")?;
+                // Printed here and not by `dump`, which makes rows and has no output: three lines, with a margin of its own.
                 for bytes in message.chunks(ROW) {
                     self.out.write_all(b"    ")?;
                     self.out.write_all(&row(self.heap, bytes)?)?;

@@ -1,4 +1,3 @@
 pub mod Sizes
 pub mod Lines
-pub mod Making
 pub mod Transfers

@@ -6,7 +6,7 @@
 //!
 //! Left out: the lines themselves. The crates `ring` and `straight` have two that own their memory, `paced`
 //! has a layer over any line, and `any_line` has an enum over the kinds.
-//! The items, in the order a reader meets them: `Line`, `transfer`, the sizes, `allow`.
+//! The items, in the order a reader meets them: `Line`, `transfer`, the sizes.
 #![tactic(auto)]
 
 pub mod lines;
@@ -14,5 +14,5 @@ pub mod making;
 pub mod transfers;
 
 pub use lines::{Line, SteadyLine};
-pub use making::{LARGEST_SIZE, SMALLEST_SIZE, allow, is_line_size};
+pub use making::{LARGEST_SIZE, SMALLEST_SIZE, is_line_size};
 pub use transfers::transfer;

@@ -15,7 +15,7 @@ pub const SIZE_LIMIT: usize = 16_777_216;
 pub trait Log {
     ghost view: { Self → Meaning };
 
-    /// The session, or 0 for none.
+    /// The session, or 0 for none: so the wire and the saved form have it.
     fn session(&self) -> u8
         ensures { result ≡ (view self.now).session };
 

@@ -8,7 +8,7 @@ use layout::limits::MESSAGE_LIMIT;
 /// What a log has left.
 #[derive(Clone, Copy)]
 pub struct Space {
-    /// The session, or 0 for none.
+    /// The session, or 0 for none, as in a log.
     pub session: u8,
     /// The bytes that are free.
     pub room: usize,

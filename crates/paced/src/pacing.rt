@@ -1,12 +1,12 @@
 //! The pacing layer, and how it is a line.
 ghost use Rattle.std.specs.Prelude.{◌≡◌};
-ghost use Rattle.line.specs.Making.{Makes};
+ghost use Rattle.fault.specs.Making.{Makes};
 ghost use Rattle.paced.specs.Pacing.{Pace, paced_view};
 ghost use Rattle.paced.specs.Views.{paced_sound};
 
-use fault::{Refusal, Unmade};
+use fault::{Refusal, Unmade, allow};
 use layout::PACKET_LIMIT;
-use line::{Line, SteadyLine, allow};
+use line::{Line, SteadyLine};
 
 /// The largest number that a layer paces by: the longest packet.
 pub const LARGEST_PACE: usize = PACKET_LIMIT;

@@ -50,11 +50,11 @@ impl Packet<'_> {
             }
             Packet::LoginResponse { .. } => 13,
             Packet::Sequenced { message, .. } => message.len() as u128 + 11,
-            Packet::Unsequenced { message } => message.len() as u128 + 3,
+            Packet::Unsequenced { message: text } | Packet::Test { text } => text.len() as u128 + 3,
             Packet::RetransmissionRequest { .. } => 19,
-            Packet::LogoutRequest { text, .. } => text.len() as u128 + 4,
-            Packet::GoodBye { text, .. } => text.len() as u128 + 4,
-            Packet::Test { text } => text.len() as u128 + 3,
+            Packet::LogoutRequest { text, .. } | Packet::GoodBye { text, .. } => {
+                text.len() as u128 + 4
+            }
             Packet::SynchronizationComplete
             | Packet::EndOfSession
             | Packet::HubHeartbeat

@@ -6,10 +6,6 @@ use Rattle.layout.specs.Limits.{message_limit}
 use Rattle.pool.specs.Parts.{edge, parts, Rising}
 use Rattle.pool.proofs.Filed.{parts_more}
 
-pub edge_past : (base : ℕ) (ends : List ℕ) (k : ℕ) → 0 < k → edge base ends k ≡ get_or ends (k - 1) 0
-edge_past base ends zero h = omega arith
-edge_past base ends (suc k) h = ap (λ j. get_or ends j 0) (omega arith)
-
 edge_set : (base : ℕ) (ends : List ℕ) (n e k : ℕ) → k ≤ n → edge base (set ends n e) k ≡ edge base ends k
 edge_set base ends n e zero h = refl
 edge_set base ends n e (suc k) h = get_or-set_other ends n k e 0 (omega arith)

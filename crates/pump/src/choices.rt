@@ -23,34 +23,23 @@ pub struct Choice {
 pub fn choose(words: &[Word]) -> Option<Choice>
     ensures { Chooses words.now result }
 {
-    match words {
-        [Word::Kind(kind), Word::Number(piece)] => Some(Choice {
-            layers: Layers::Bare,
-            kind: *kind,
-            piece: *piece,
-        }),
-        [
-            Word::Paced,
-            Word::Number(pace),
-            Word::Kind(kind),
-            Word::Number(piece),
-        ] => Some(Choice {
-            layers: Layers::Once(*pace),
-            kind: *kind,
-            piece: *piece,
-        }),
+    let [layers @ .., Word::Kind(kind), Word::Number(piece)] = words else {
+        return None;
+    };
+    let layers = match layers {
+        [] => Layers::Bare,
+        [Word::Paced, Word::Number(pace)] => Layers::Once(*pace),
         [
             Word::Paced,
             Word::Number(outer),
             Word::Paced,
             Word::Number(inner),
-            Word::Kind(kind),
-            Word::Number(piece),
-        ] => Some(Choice {
-            layers: Layers::Twice(*outer, *inner),
-            kind: *kind,
-            piece: *piece,
-        }),
-        _ => None,
-    }
+        ] => Layers::Twice(*outer, *inner),
+        _ => return None,
+    };
+    Some(Choice {
+        layers,
+        kind: *kind,
+        piece: *piece,
+    })
 }

@@ -1,9 +1,10 @@
 -- Reading and writing round the end of a list of places.
 use Rattle.std.specs.Prelude.{◌≡◌, ℕ, ◌+◌, ◌-◌, ◌<◌, ◌≤◌, ◌⊎◌, List, ◌++◌, length, take, drop, refl}
-use Rattle.std.proofs.Common.{sym, ap, ◌∙◌, append_assoc, inl, inr, arith, length-drop, length-take, length-append, take-add}
+use Rattle.std.proofs.Common.{sym, ap, ◌∙◌, append_assoc, append-nil, inl, inr, arith, length-drop, length-take, length-append, take-add}
+use borrow.Rule.Slice.PartMut.{put_mid}
 use Rattle.std.proofs.Math.Seq.{take-append-add}
 use Rattle.std.proofs.lemmas.Bool.{cases_lt}
-use Rattle.std.proofs.lemmas.List.{drop-append-le, take-append-le, take-append-drop, take_at, drop_at, drop-drop, take_all, drop-take}
+use Rattle.std.proofs.lemmas.List.{drop-append-le, take-append-le, take-append-drop, take_at, drop_at, drop-drop, take_all, drop_all, drop-take}
 use Rattle.std.proofs.lemmas.Slice.{take-put_mid, drop-put_mid}
 use Rattle.memory.proofs.Laid.{length_laid}
 use Rattle.memory.specs.Memory.{laid}
@@ -48,6 +49,16 @@ ringed_split xs start count k to l c s g = whole ∙ ap (λ q. ringed xs start k
         ap (λ q. take (count - k) (drop q (xs ++ xs))) n
         ∙ ap (take (count - k)) (sym (drop-drop to (length xs) (xs ++ xs)) ∙ ap (drop to) (drop_at xs xs (length xs) refl))
         ∙ sym (near xs to (count - k) (omega arith) (omega arith))
+
+-- Two parts of a slice that were written one after the other, up to its end.
+pub two_parts : (front back rest : List ℕ) (a : ℕ) → length front ≡ a →
+    put_mid a (length (front ++ rest) - a) (front ++ rest) back ≡ front ++ back
+two_parts front back rest a l =
+    let n = length (front ++ rest) - a in
+    let d : length (drop a (front ++ rest)) ≤ n = simp length-drop (omega arith) in
+    ap (λ q. q ++ (back ++ drop n (drop a (front ++ rest)))) (take_at front rest a l)
+    ∙ ap (λ q. front ++ (back ++ q)) (drop_all n (drop a (front ++ rest)) d)
+    ∙ ap (λ q. front ++ q) (append-nil back)
 
 -- What was laid behind what waits, waits behind it.
 module _ (xs : List ℕ) (start count at : ℕ) (piece ys : List ℕ) (s : start < length xs) (c : count + length piece ≤ length xs) where

@@ -3,16 +3,16 @@ ghost use Rattle.std.specs.Prelude.{◌≡◌, vec_len};
 ghost use Rattle.std.proofs.Common.{sym};
 ghost use Rattle.std.proofs.Math.Nat.{sub-le};
 ghost use Rattle.line.specs.Lines.{fresh};
-ghost use Rattle.line.specs.Making.{Makes};
+ghost use Rattle.fault.specs.Making.{Makes};
 ghost use Rattle.line.specs.Sizes.{LineSize};
 ghost use Rattle.layout.specs.Limits.{packet_limit};
 ghost use Rattle.ring.specs.Rings.{InRing, ring_view};
 ghost use Rattle.ring.specs.Views.{ring_sound};
 
 use crate::places::{lay_round, onward, read_round};
-use fault::{Refusal, Unmade};
+use fault::{Refusal, Unmade, allow};
 use layout::PACKET_LIMIT;
-use line::{Line, SteadyLine, allow, is_line_size};
+use line::{Line, SteadyLine, is_line_size};
 
 /// A line whose memory is used round and round.
 // No `VecDeque`: the memory is given once, of a size that is chosen at run time, and no put may ask for more.

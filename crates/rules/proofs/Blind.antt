@@ -28,7 +28,7 @@ use Rattle.rules.specs.Hub.{hub_gone, hub_letters, admitted, decided, hub_acts, 
 use Rattle.rules.specs.Seat.{seat_gone, seat_letters, suits, next_number, seat_keeps, seat_skips, seat_complete, seat_acts, seat_judges, seat_hears}
 use Rattle.rules.proofs.Cases.{Act, hub_acts_lem, seat_acts_lem}
 
-along : {A B : Type 0} (f : A → B) (b : Bool) (x y : A) (z w : B) → z ≡ f x → w ≡ f y → cond b z w ≡ f (cond b x y)
+pub along : {A B : Type 0} (f : A → B) (b : Bool) (x y : A) (z w : B) → z ≡ f x → w ≡ f y → cond b z w ≡ f (cond b x y)
 along f true x y z w p q = p
 along f false x y z w p q = q
 

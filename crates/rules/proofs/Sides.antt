@@ -32,10 +32,7 @@ use Rattle.rules.specs.Calls.{done, is_serving, is_live, tell, say, leave, hub_t
 use Rattle.rules.specs.Sides.{with_hub_side, with_seat_side, with_hub_core, with_seat_core, on_side, on_core}
 use Rattle.rules.proofs.Cases.{Act, hub_acts_lem, seat_acts_lem}
 use Rattle.layout.specs.declared.letters.Letter.{Letter}
-
-along : {A B : Type 0} (f : A → B) (b : Bool) (x y : A) (z w : B) → z ≡ f x → w ≡ f y → cond b z w ≡ f (cond b x y)
-along f true x y z w p q = p
-along f false x y z w p q = q
+use Rattle.rules.proofs.Blind.{along}
 
 -- receives of the hub
 abbrev OfHub : Act → Type 0

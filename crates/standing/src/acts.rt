@@ -112,7 +112,7 @@ fn is_suited(asked: u8, session: u8) -> bool
 fn is_next(number: u64, highest: u64) -> bool
     ensures { result ≡ (highest + 1 == number) }
 {
-    number > highest && number - highest == 1
+    highest.checked_add(1) == Some(number)
 }
 
 // Begins the session, if the log is of another.

@@ -19,7 +19,8 @@ pub struct Standing {
     /// The session and the number that its login asked for.
     pub(crate) session: u8,
     pub(crate) number: u64,
-    /// The end of a fetch, and whether it was requested.
+    /// The end of a fetch, and whether it was requested. Two fields and no pair in the `Option`: the rules say of every
+    /// seat whether it has requested, as they say of each what its login asked for, by 0 where it asked for nothing.
     pub(crate) fetch: Option<u64>,
     pub(crate) requested: bool,
     /// Whether it has reported itself in step since the connect.

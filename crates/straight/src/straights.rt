@@ -3,13 +3,13 @@ ghost use Rattle.std.specs.Prelude.{◌≡◌, vec_len};
 ghost use Rattle.std.proofs.Common.{sym};
 ghost use Rattle.std.proofs.Math.Nat.{sub-le};
 ghost use Rattle.line.specs.Lines.{fresh};
-ghost use Rattle.line.specs.Making.{Makes};
+ghost use Rattle.fault.specs.Making.{Makes};
 ghost use Rattle.line.specs.Sizes.{LineSize};
 ghost use Rattle.straight.specs.Straights.{InOrder, straight_view};
 ghost use Rattle.straight.specs.Views.{straight_sound};
 
-use fault::{Refusal, Unmade};
-use line::{Line, SteadyLine, allow, is_line_size};
+use fault::{Refusal, Unmade, allow};
+use line::{Line, SteadyLine, is_line_size};
 use memory::lay;
 
 /// A line whose memory is used from the front, and anew once nothing waits.

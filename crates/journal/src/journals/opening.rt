@@ -7,7 +7,7 @@ ghost use Rattle.journal.specs.Layout.{base, gap, makes, places_of, journal, For
 ghost use Rattle.journal.specs.Opening.{Savable, Broken, Unmakable, Unopened, Opened, opens};
 
 use super::{JOURNAL_LEAST, JOURNAL_LIMIT, Journal, RECORD_HEAD, session_record};
-use fault::{Refusal, Unmade};
+use fault::{Refusal, Unmade, allow};
 use memory::lay;
 use message_log::Log;
 use pool::Parts;
@@ -83,12 +83,8 @@ impl Journal {
         ensures cases { MatchResult result (λ j. Opened memory.items used (⟦<Journal as Log>⟧.view j)) (λ u. (u.given ≡ memory) × Unopened memory.items used u.refusal) }
         ensures back { (s : ℕ) (ms : List (List ℕ)) → Savable s ms → opens (vec_len memory) used ≡ true → take used memory.items ≡ saved s ms → MatchResult result (λ j. ⟦<Journal as Log>⟧.view j ≡ journal (vec_len memory) s ms) (λ u. u.refusal ≡ R.OutOfMemory) }
     {
-        if used > memory.len() {
-            return Err(Unmade {
-                refusal: Refusal::SizeOutOfRange,
-                given: memory,
-            });
-        }
+        // Memory and how much of it is used: a journal goes on in memory that is longer than what was saved.
+        let memory = allow(used <= memory.len(), memory)?;
         let (memory, ends) = with_index(heap, memory)?;
         let mut parts = Parts {
             memory,
@@ -96,12 +92,12 @@ impl Journal {
             session: 0,
             count: 0,
         };
-        match walk(&mut parts, used) {
-            Ok(()) => Ok(Journal { parts }),
-            Err(refusal) => Err(Unmade {
+        if let Err(refusal) = walk(&mut parts, used) {
+            return Err(Unmade {
                 refusal,
                 given: parts.memory,
-            }),
+            });
         }
+        Ok(Journal { parts })
     }
 }

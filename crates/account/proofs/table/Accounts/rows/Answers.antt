@@ -1,8 +1,8 @@
-use Rattle.std.proofs.Common.{length, subst, arith}
-use Rattle.account.specs.Table.{Table, Single}
-use Rattle.account.proofs.Marking.{in_use_single}
+use Rattle.std.proofs.Common.{subst, arith}
+use Rattle.account.specs.Table.{Whole}
+use Rattle.account.proofs.Marking.{whole_in_use}
 use Rattle.account.proofs.table.Accounts.rows.Goals as goal
 
-pub returns-clause-single : goal.returns-clause-single
-returns-clause-single c =
-    subst (λ (t : Table). Single t.rows (length t.rows)) c.self.view_is (in_use_single c.self.inside.rows c.self.inside.count (omega arith) c.self.invariant.2)
+pub returns-clause-whole : goal.returns-clause-whole
+returns-clause-whole c =
+    subst Whole c.self.view_is (whole_in_use c.self.inside.rows c.self.inside.count c.self.invariant.0 c.self.invariant.1 c.self.invariant.2)
