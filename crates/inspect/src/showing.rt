@@ -54,6 +54,7 @@ impl<W: Write> Report<W> {
 
     /// Shows why a log was not opened whose bytes in use were the first `used`, and what can still be read before the
     /// place where it is broken.
+    // The memory whole, and how much of it was in use: `open` hands the memory back, and takes it again.
     fn show_refused(&mut self, path: &str, unmade: Unmade<Vec<u8>>, used: usize) -> io::Result<()> {
         let Refusal::BrokenLog(place) = unmade.refusal else {
             return writeln!(self.out, "{path}: {}", unmade.refusal);
