@@ -84,20 +84,21 @@ impl Journal {
         ensures back { (s : ℕ) (ms : List (List ℕ)) → Savable s ms → opens (vec_len memory) used ≡ true → take used memory.items ≡ saved s ms → MatchResult result (λ j. ⟦<Journal as Log>⟧.view j ≡ journal (vec_len memory) s ms) (λ u. u.refusal ≡ R.OutOfMemory) }
     {
         // Memory and how much of it is used: a journal goes on in memory that is longer than what was saved.
-        let memory = allow(used <= memory.len(), memory)?;
-        let (memory, ends) = with_index(heap, memory)?;
+        let given = allow(used <= memory.len(), memory)?;
+        let (memory, ends) = with_index(heap, given)?;
         let mut parts = Parts {
             memory,
             ends,
             session: 0,
             count: 0,
         };
-        if let Err(refusal) = walk(&mut parts, used) {
-            return Err(Unmade {
+        // No `map_err`, as above: both arms take the parts.
+        match walk(&mut parts, used) {
+            Ok(()) => Ok(Journal { parts }),
+            Err(refusal) => Err(Unmade {
                 refusal,
                 given: parts.memory,
-            });
+            }),
         }
-        Ok(Journal { parts })
     }
 }
