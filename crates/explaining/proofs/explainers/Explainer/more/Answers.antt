@@ -7,7 +7,7 @@ pub returns-in-0 : goal.returns-in-0
 returns-in-0 g c =
     let b = c.bytes.ensures.held in
     record {
-      frame = (same_window _ _ _ c.in_ok-fill.ensures c.if-branch-gt0.false, nil_from_length _ (ap length (sym b) ∙ c.in-0.is));
+      frame = (same_window _ _ _ c.in_ok-fill.ensures.held c.if-branch-gt0.false, nil_from_length _ (ap length (sym b) ∙ c.in-0.is));
       tally = refl;
       offset = refl;
     }
@@ -16,7 +16,7 @@ pub returns-in_default : goal.returns-in_default
 returns-in_default g c =
     let b = c.bytes.ensures.held in
     record {
-      frame = (same_window _ _ _ c.in_ok-fill.ensures c.if-branch-gt0.false, ap length (sym b), search rules);
+      frame = (same_window _ _ _ c.in_ok-fill.ensures.held c.if-branch-gt0.false, ap length (sym b), search rules);
       tally = refl;
       offset = refl;
     }

@@ -27,4 +27,4 @@ returns g c =
     let found = c.in-Ok-Some.found in
     let v = value_of found.packet in
     let at = subst (λ (x : List ℕ). PacketAt x v found.size) c.bytes.ensures.held (subst (λ (o : Option Found). Tells c.bytes.result.now (Ok o)) c.in-Ok-Some.field-0-is c.in-Ok-Some.ensures) in
-    turned_told _ _ v found.size at c.pass.ensures (c.note.ensures ∙ ap (raised c.args.self.now.tally) c.letter-letter.ensures) c.saturating_add-self.ensures
+    turned_told _ _ v found.size at c.pass.ensures.held (c.note.ensures ∙ ap (raised c.args.self.now.tally) c.letter-letter.ensures) c.saturating_add-self.ensures
