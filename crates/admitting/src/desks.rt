@@ -1,7 +1,5 @@
 //! A desk at which logins are decided: what the commands do to it, and what they answer.
-ghost use Rattle.std.specs.Prelude.{◌≡◌};
-ghost use Rattle.admitting.specs.Commands.{order_of, asking, logout};
-ghost use Rattle.admitting.specs.Desks.{seen, opened, answered, done};
+ghost use Rattle.account.specs.Table.{Whole};
 
 use crate::commands::Command;
 use account::{Account, Accounts};
@@ -15,6 +13,7 @@ pub struct Desk {
     accounts: Accounts,
     session: u8,
     highest: u64,
+    ghost whole: { Whole accounts },
 }
 
 /// What a command is answered.
@@ -31,6 +30,10 @@ pub enum Answer {
 }
 
 impl Desk {
+    ghost use Rattle.std.specs.Prelude.{◌≡◌};
+    ghost use Rattle.admitting.specs.Commands.{order_of, asking, logout};
+    ghost use Rattle.admitting.specs.Desks.{seen, opened, answered, done};
+
     /// A desk with no account, in session 1, with no message.
     pub fn new() -> Desk
         ensures { seen result ≡ opened }

@@ -1,5 +1,6 @@
 //! Explaining a capture from its first byte to its ending.
-ghost use Rattle.std.specs.Prelude.{◌≡◌, IfOk};
+ghost use Rattle.std.specs.Prelude.{◌≡◌, ◌≤◌, length, IfOk};
+ghost use Rattle.layout.specs.Limits.{packet_limit};
 ghost use Rattle.explaining.specs.Explained.{Turned, More, Explained, Fresh};
 
 use capture::{Ending, Frame, Summary, Tally, find};
@@ -20,7 +21,8 @@ pub struct Explainer {
 impl Explainer {
     /// Before the first byte.
     pub fn new() -> Explainer
-        ensures { Fresh result }
+        ensures fresh { Fresh result }
+        ensures short { length result.frame ≤ packet_limit }
     {
         Explainer {
             frame: Frame::new(),
@@ -37,7 +39,8 @@ impl Explainer {
         input: &mut R,
         out: &mut W,
     ) -> io::Result<Option<Ending>>
-        ensures { Turned self.old self.new result }
+        ensures turned { Turned self.old self.new result }
+        ensures short { length self.new.frame ≤ packet_limit }
     {
         let found = match find(self.frame.bytes()) {
             Ok(Some(found)) => found,
@@ -56,6 +59,7 @@ impl Explainer {
     // Reads more behind what is held, or gives the ending where nothing comes.
     fn more<R: Read>(&mut self, input: &mut R) -> io::Result<Option<Ending>>
         ensures frame { More self.old.frame self.new.frame result }
+        ensures short { length self.new.frame ≤ packet_limit }
         ensures tally { self.new.tally ≡ self.old.tally }
         ensures offset { self.new.offset ≡ self.old.offset }
     {

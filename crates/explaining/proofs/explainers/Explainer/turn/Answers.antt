@@ -7,23 +7,23 @@ use Rattle.capture.specs.Tallies.{raised}
 use Rattle.explaining.proofs.Turns.{turned_fault, turned_error, turned_more, turned_told}
 use Rattle.explaining.proofs.explainers.Explainer.turn.Goals as goal
 
-pub returns-in-Err : goal.returns-in-Err
-returns-in-Err g c =
+pub returns-in-Err-clause-turned : goal.returns-in-Err-clause-turned
+returns-in-Err-clause-turned g c =
     let fault = c.in-Err.fault in
     turned_fault _ fault (subst (λ (x : List ℕ). Tells x (Err fault)) c.bytes.ensures.held c.in-Err.ensures)
 
-pub returns-in-Ok-None : goal.returns-in-Ok-None
-returns-in-Ok-None g c =
+pub returns-in-Ok-None-clause-turned : goal.returns-in-Ok-None-clause-turned
+returns-in-Ok-None-clause-turned g c =
     let m = c.more.ensures in
     turned_more _ _ c.more.result (subst Part c.bytes.ensures.held (subst (λ (o : Option Found). Tells c.bytes.result.now (Ok o)) c.in-Ok-None.field-0-is c.in-Ok-None.ensures)) m.tally m.offset m.frame
 
-pub returns-in_err-show_packet : goal.returns-in_err-show_packet
-returns-in_err-show_packet g c =
+pub returns-in_err-show_packet-clause-turned : goal.returns-in_err-show_packet-clause-turned
+returns-in_err-show_packet-clause-turned g c =
     let r = err_from_is_err_and c.from_residual.result c.from_residual.ensures.1 in
     rw r.1 (turned_error _ r.0)
 
-pub returns : goal.returns
-returns g c =
+pub returns-clause-turned : goal.returns-clause-turned
+returns-clause-turned g c =
     let found = c.in-Ok-Some.found in
     let v = value_of found.packet in
     let at = subst (λ (x : List ℕ). PacketAt x v found.size) c.bytes.ensures.held (subst (λ (o : Option Found). Tells c.bytes.result.now (Ok o)) c.in-Ok-Some.field-0-is c.in-Ok-Some.ensures) in
