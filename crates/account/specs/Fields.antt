@@ -1,8 +1,9 @@
 -- The fields of an account: which are allowed, and how they are padded.
-use Rattle.std.specs.Prelude.{ℕ, ◌-◌, Bool, cond, ◌&&◌, List, ◌++◌, length, drop, replicate, Ok, Err, Result, nat_le}
+use Rattle.std.specs.Prelude.{ℕ, ◌-◌, Bool, cond, ◌&&◌, List, ◌++◌, length, replicate, Ok, Err, Result, nat_le}
 use Rattle.std.specs.List.{list_all}
 use Rattle.fault.specs.declared.refusals.Refusal.{Refusal}
 use Rattle.fault.specs.declared.refusals.Refusal.TheVariants.{BadAccountField}
+use Rattle.memory.specs.Memory as Memory
 use Rattle.account.specs.declared.fields.Account.{Account}
 
 -- a byte that is written as a mark on paper: from ! to ~
@@ -25,7 +26,7 @@ abbrev pub judged : ℕ → List ℕ → Result Unit Refusal
 judged width text = cond (good width text) (Ok tt) (Err BadAccountField)
 
 abbrev pub laid : List ℕ → List ℕ → List ℕ
-laid field text = cond (good (length field) text) (text ++ drop (length text) field) field
+laid field text = cond (good (length field) text) (Memory.laid field 0 text) field
 
 -- a text that is padded to a width, or the refusal
 abbrev pub field_of : ℕ → List ℕ → Result (List ℕ) Refusal

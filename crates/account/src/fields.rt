@@ -48,7 +48,7 @@ pub fn lay(field: &mut [u8], text: &[u8]) -> Result<(), Refusal>
     if !is_good(text, field.len()) {
         return Err(Refusal::BadAccountField);
     }
-    field[0..text.len()].copy_from_slice(text);
+    memory::lay(field, 0, text);
     Ok(())
 }
 

@@ -13,6 +13,7 @@ use packet::Login;
 pub const SPOKEN_VERSION: [u8; 5] = *b"1.1  ";
 
 impl Accounts {
+    // Session and highest number are two answers of a log: a struct of both would be made anew at each call.
     /// What a login is answered by a hub whose log has this session and highest number: the status of the first
     /// check that it fails.
     pub fn decide(&self, login: Login<'_>, session: u8, highest: u64) -> Status

@@ -22,6 +22,7 @@ pub struct Accounts {
 }
 
 /// A table means the rows in use, and those that are free.
+// A model shows callers no invariant, so each call tells it by a clause of its own, `whole`.
 impl Model for Accounts {
     ghost Value = { Table };
 
@@ -78,6 +79,7 @@ impl Accounts {
         find(self.rows(), user, computer)
     }
 
+    // Three texts: they are an account only once they are judged.
     /// Adds an account and answers the place of its row. Refuses by `BadAccountField`, and then by
     /// `AccountTaken` where every row is in use or one matches.
     pub fn add(&mut self, user: &[u8], computer: &[u8], protocol: &[u8]) -> Result<usize, Refusal>

@@ -32,8 +32,7 @@ mod tests {
         answer: Result<T, Refusal>,
         refusal: Refusal,
     ) -> Result<(), Fail> {
-        let refused = answer.err().map(Refusal::number);
-        assert_eq!(rt; refused, Some(refusal.number()));
+        assert_eq!(rt; answer.err(), Some(refusal));
         Ok(())
     }
 

@@ -11,6 +11,7 @@ Names text (Some Login) = text ≡ codes "login"
 Names text (Some Logout) = text ≡ codes "logout"
 Names text None = (text ≢ codes "account") × (text ≢ codes "hub") × (text ≢ codes "login") × (text ≢ codes "logout")
 
+-- (told in both programs that read words: a crate below both for one line would be no plainer)
 -- decimal digits, after a plus or none, of a number below the machine's limit
 abbrev pub Numeric : List ℕ → Type 0
 Numeric text = IsNumeral 10 (without_leading_plus text) × (digits_value 10 (without_leading_plus text) < 2 ^ 64)

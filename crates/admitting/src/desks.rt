@@ -82,6 +82,7 @@ impl Desk {
         ensures answer { result ≡ answered (seen self.old) (asking version account session number) }
         ensures after { seen self.new ≡ done (seen self.old) (asking version account session number) }
     {
+        // Field by field, as the contract says it; a function for this would have to say it once more.
         let login = Login {
             version: &version,
             user: &account.user,

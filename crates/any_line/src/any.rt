@@ -13,6 +13,7 @@ use ring::Ring;
 use straight::Straight;
 
 /// A line of one of the kinds. It means what the line in it means.
+// An enum and no `dyn`: a program hands its choice out, and no function may hand a `dyn` value out.
 #[derive(Drop)]
 pub enum AnyLine {
     Ring(Ring),

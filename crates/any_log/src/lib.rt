@@ -12,6 +12,7 @@ use fault::Refusal;
 use message_log::Log;
 
 /// A journal or an indexed log.
+// An enum and no `dyn`: a program hands its choice out, and no function may hand a `dyn` value out.
 #[derive(Drop)]
 pub enum AnyLog {
     Journal(journal::Journal),

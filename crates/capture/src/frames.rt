@@ -25,6 +25,7 @@ pub struct Frame {
 }
 
 /// A frame means the bytes that it holds.
+// A model shows callers no invariant, so each call tells it by a clause of its own, `short`.
 impl Model for Frame {
     ghost Value = { List ℕ };
 

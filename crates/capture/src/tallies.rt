@@ -44,7 +44,8 @@ impl Tally {
     }
 }
 
-// Where a letter's count stands. The number that the enum gives a letter is its byte on the wire, and no place.
+// Where a letter's count stands. The number that the enum gives a letter is its byte on the wire, and no place; a search
+// in `LETTERS` would answer an `Option`.
 fn place_of(letter: Letter) -> usize
     ensures { result ≡ ordinal letter }
 {

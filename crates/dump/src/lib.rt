@@ -15,7 +15,8 @@ pub const ROW: usize = 16;
 /// The width of the hex column of a full row.
 const HEX_WIDTH: usize = 48;
 
-// By hand: the kit's crate for hex writes the pairs with nothing between them.
+// By hand: `char::from_digit` answers an `Option` of a small letter, and the kit's crate for hex writes the pairs with
+// nothing between them.
 /// The hex digit of a number below 16; of any other, that of its remainder.
 fn digit(n: u8) -> u8
     ensures { result ≡ digit_of (n % 16) }

@@ -1,7 +1,7 @@
 //! The worked examples of every layer, by one theorem over their list.
 //!
-//! Left out: the examples themselves, which stand with their layers (`specs/Examples.antt` of `packet` and of
-//! `journal`).
+//! Left out: the examples themselves, which stand with their layers (`specs/Examples.antt` of `packet`, of `journal`
+//! and of `account`).
 #![tactic(auto)]
 
 ghost use Rattle.examples.specs.Worked.{WorkedExamplesHold};
@@ -12,4 +12,5 @@ pub fn worked_examples_hold()
 {
     packet::laws::examples_hold();
     journal::laws::examples_hold();
+    account::laws::examples_hold();
 }

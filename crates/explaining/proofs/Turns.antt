@@ -1,7 +1,7 @@
 -- The steps of an explainer, each as a run that goes on.
-use Rattle.std.proofs.Common.{◌≡◌, ℕ, ◌+◌, ◌-◌, ◌^◌, ◌<◌, ◌≤◌, min, List, [], ◌∷◌, ◌++◌, length, drop, replicate, Some, None, Ok, Err, Option, Result, sym, refl, ap, ◌∙◌, subst, arith, length-append, length-drop}
+use Rattle.std.proofs.Common.{◌≡◌, ℕ, ◌+◌, ◌-◌, ◌^◌, ◌<◌, min, List, [], ◌∷◌, ◌++◌, length, drop, replicate, Some, None, Ok, Err, Option, Result, sym, refl, ap, ◌∙◌, subst, arith, length-append, length-drop}
 use Rattle.std.specs.List.{flat_map}
-use Rattle.std.proofs.lemmas.List.{append-nil, take_all, take-append-drop, flat_map_more}
+use Rattle.std.proofs.lemmas.List.{append-nil, take-append-drop, flat_map_more}
 use Rattle.std.specs.declared.io.Error.{Error}
 use Rattle.fault.specs.declared.faults.Fault.{Fault}
 use Rattle.fault.specs.declared.faults.Fault.TheVariants as F
@@ -10,7 +10,6 @@ use Rattle.packet.specs.Decoding.{decode}
 use Rattle.capture.specs.Finding.{Part, PacketAt, Tells}
 use Rattle.capture.specs.Runs.{Run, start, came, told}
 use Rattle.capture.specs.Tallies.{raised}
-use Rattle.capture.specs.Windows.{Grown}
 use Rattle.capture.specs.declared.endings.Ending.{Ending}
 use Rattle.capture.specs.declared.endings.Ending.TheVariants as E
 use Rattle.explaining.specs.declared.explainers.Explainer.{Explainer}
@@ -19,10 +18,6 @@ use Rattle.explaining.specs.Explained.{Knows, Went, Turned, More, Ends, Fresh, R
 told_fault : (held : List ℕ) (fault : Fault) → Tells held (Err fault) → Ends held (E.Fault fault)
 told_fault held (F.Packet fault) e = e
 told_fault held (F.Log fault) e = e
-
--- none came: what is held is as it was
-pub same_window : (old new : List ℕ) (n : ℕ) → Grown old new n → n ≤ 0 → new ≡ old
-same_window old new n g h = sym (take_all (length old) new (omega (arith, g.more))) ∙ g.kept
 
 tallied_push : (counts : List ℕ) (vs : List Value) (v : Value) → tallied counts (vs ++ v ∷ []) ≡ raised (tallied counts vs) (letter v)
 tallied_push counts [] v = refl

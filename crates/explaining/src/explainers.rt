@@ -47,7 +47,7 @@ impl Explainer {
             Ok(None) => return self.more(input),
             Err(fault) => return Ok(Some(Ending::Fault(fault))),
         };
-        show_packet(heap, out, self.offset, found.size, found.packet)?;
+        show_packet(heap, out, self.offset, found)?;
         let letter = found.packet.letter();
         let size = found.size;
         self.frame.pass(size);
@@ -79,7 +79,8 @@ pub fn explain<R: Read, W: Write>(heap: Global, input: &mut R, out: &mut W) -> i
 {
     let mut explainer = Explainer::new();
     writeln!(out, "{:>10} {:>6}  {}", "offset", "bytes", "packet")?;
-    // to the input's end: each turn reads, or tells a packet, or gives the ending
+    // The form for a loop that goes on to its input's end: no list or range has the turns. Each turn reads, or tells a
+    // packet, or gives the ending.
     for _ in 0..u64::MAX {
         if let Some(ending) = explainer.turn(heap, input, out)? {
             let summary = Summary {

@@ -4,7 +4,7 @@
 //! cause and its place. A **refusal** is a call's answer that it did nothing; other programs know the
 //! refusals by their numbers. Each layer has a fault type of its own, and `?` passes it on through `From`.
 //!
-//! Left out: what finds the faults. The types, in the order a reader meets them: `Field`, `PacketFault`,
+//! Left out: what finds the faults. The items, in the order a reader meets them: `Field`, `PacketFault`,
 //! `LogFault`, `Layer`, `Fault`, `Refusal`, `Unmade`, `allow`.
 #![tactic(auto)]
 

@@ -1,4 +1,4 @@
-//! A making that was refused.
+//! Makings: what a refused one answers, and what is allowed.
 ghost use Rattle.std.specs.Prelude.{◌≡◌, IsTrue};
 ghost use Rattle.fault.specs.Making.{Makes};
 

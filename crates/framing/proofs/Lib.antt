@@ -1,4 +1,3 @@
 pub mod Posts
 pub mod Messages
 pub mod Takes
-pub mod Valid

@@ -1,6 +1,6 @@
 //! Frames: the bytes that are in of a packet which is not whole yet.
 //! A take brings at most what the frame still lacks, so a frame never holds more than one packet.
-ghost use Rattle.std.specs.Prelude.{◌≡◌, ◌+◌, ◌-◌, ◌≤◌, length, take};
+ghost use Rattle.std.specs.Prelude.{◌≡◌, ◌+◌, ◌-◌, ◌≤◌, length};
 ghost use Rattle.rules.specs.Frames.{lack};
 ghost use Rattle.framing.specs.Filling.{Filled, wanted};
 
@@ -19,21 +19,20 @@ pub fn fill<L: SteadyLine>(line: &mut L, frame: &mut [u8], held: usize) -> usize
     if held > PACKET_LIMIT {
         return 0;
     }
-    let end = held + lacking(frame, held);
+    let end = held + lacking(&frame[..held]);
     take_at(line, frame, held, end)
 }
 
-// What the frame still lacks.
-fn lacking(frame: &[u8], held: usize) -> usize
-    requires { held ≤ length frame.now }
-    ensures { result ≡ lack (take held frame.now) }
+// What a frame still lacks.
+fn lacking(frame: &[u8]) -> usize
+    ensures { result ≡ lack frame.now }
 {
-    match &frame[0..held] {
+    match frame {
         [low, high, ..] => {
             let whole = usize::from(u16::from_le_bytes([*low, *high])) + 2;
-            whole.min(PACKET_LIMIT).saturating_sub(held)
+            whole.min(PACKET_LIMIT).saturating_sub(frame.len())
         }
-        _ => 2 - held,
+        _ => 2 - frame.len(),
     }
 }
 

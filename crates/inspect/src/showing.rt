@@ -22,18 +22,23 @@ impl<W: Write> Report<W> {
             (Ok(place), Ok(message)) => {
                 let len = message.len();
                 writeln!(self.out, "  message {n} at {place}, {len} bytes")?;
-                // Printed here and not by `dump`, which makes rows and has no output: three lines, with a margin of its own.
-                for bytes in message.chunks(ROW) {
-                    self.out.write_all(b"    ")?;
-                    self.out.write_all(&row(self.heap, bytes)?)?;
-                    self.out.write_all(b"\n")?;
-                }
-                Ok(())
+                self.show_rows(message)
             }
             (Err(refusal), _) | (_, Err(refusal)) => {
                 writeln!(self.out, "  message {n}: {refusal}")
             }
         }
+    }
+
+    /// Shows the bytes of a message.
+    // Printed here and not by `dump`, which makes rows and has no output: three lines, with a margin of its own.
+    fn show_rows(&mut self, message: &[u8]) -> io::Result<()> {
+        for bytes in message.chunks(ROW) {
+            self.out.write_all(b"    ")?;
+            self.out.write_all(&row(self.heap, bytes)?)?;
+            self.out.write_all(b"\n")?;
+        }
+        Ok(())
     }
 
     /// Shows a journal: its session, the number of its messages, the bytes used and free, and each message.

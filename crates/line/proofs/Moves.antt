@@ -1,29 +1,13 @@
 -- The steps of a transfer.
-use Rattle.std.proofs.Common.{◌≡◌, ℕ, ◌+◌, ◌-◌, ◌≤◌, List, [], ◌++◌, length, take, drop, Result, sym, refl, ap, ◌∙◌, append_assoc, append-nil, arith, length-append}
+use Rattle.std.proofs.Common.{◌≡◌, ℕ, ◌+◌, ◌-◌, ◌≤◌, List, ◌++◌, length, take, drop, Result, sym, ap, ◌∙◌, append_assoc, arith, length-append}
 use Rattle.fault.specs.declared.refusals.Refusal.{Refusal}
 use Rattle.line.specs.Lines.{LineView, Put, Taken, joined}
 use Rattle.line.specs.Transfers.{Moved}
 use Rattle.line.proofs.Takes.{same_view, put_after, front_length, taken_whole}
 
-joined_none : (d : LineView) → d ≡ joined d []
-joined_none d = same_view d.full d.limit (sym (append-nil d.waiting)) (omega arith)
-
 joined_twice : (d : LineView) (p q : List ℕ) → joined (joined d p) q ≡ joined d (p ++ q)
 joined_twice d p q =
     same_view d.full d.limit (append_assoc d.waiting p q) (simp length-append (omega arith))
-
-pub moved_none : (v d : LineView) (n : ℕ) → n ≡ 0 → Moved v d n v d
-moved_none v d n z =
-    record {
-      moved = [];
-      count = sym z;
-      whole = refl;
-      there = joined_none d;
-      fits = omega arith;
-      room = omega arith;
-      full = refl;
-      limit = refl;
-    }
 
 pub moved_more : {v d w e x y : LineView} {b f p : List ℕ} {m k : ℕ} {r : Result (Unit {0}) Refusal} (n : ℕ) →
     Moved v d m w e → Taken w b k x f → Put e p r y → p ≡ take k w.waiting → k ≤ e.room → n ≡ m + k → Moved v d n x y
@@ -39,22 +23,6 @@ moved_more {v} {d} {w} {e} {x} {y} {b} {f} {p} {m} {k} {r} n a t u i h z =
           ∙ a.whole;
       there = put_after u (omega arith) ∙ ap (λ q. joined q p) a.there ∙ joined_twice d a.moved p;
       fits = omega (arith, a.count, a.fits);
-      room = omega (arith, a.room, t.room);
-      full = t.full ∙ a.full;
-      limit = t.limit ∙ a.limit;
-    }
-
--- a take that hands over nothing
-pub moved_end : {v d w e x : LineView} {b f : List ℕ} {m k : ℕ} (n : ℕ) →
-    Moved v d m w e → Taken w b k x f → k ≡ 0 → n ≡ m → Moved v d n x e
-moved_end {v} {d} {w} {e} {x} {b} {f} {m} {k} n a t z i =
-    let same : x.waiting ≡ w.waiting = t.rest ∙ ap (λ j. drop j w.waiting) z in
-    record {
-      moved = a.moved;
-      count = a.count ∙ sym i;
-      whole = ap (λ q. a.moved ++ q) same ∙ a.whole;
-      there = a.there;
-      fits = omega (arith, a.fits);
       room = omega (arith, a.room, t.room);
       full = t.full ∙ a.full;
       limit = t.limit ∙ a.limit;

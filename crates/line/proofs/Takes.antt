@@ -13,10 +13,6 @@ view waiting room full limit = record { waiting = waiting; room = room; full = f
 pub same_view : {w x : List ℕ} {r q : ℕ} (f l : ℕ) → w ≡ x → r ≡ q → view w r f l ≡ view x q f l
 same_view {w} {x} {r} {q} f l a b = ap (λ y. view y r f l) a ∙ ap (λ y. view x y f l) b
 
--- a piece that fits is granted
-pub put_answer : {v w : LineView} {p : List ℕ} {r : Result (Unit {0}) Refusal} → Put v p r w → length p ≤ v.room → r ≡ Ok tt
-put_answer {v} {w} {p} {r} t h = t.answer ∙ ap (λ b. cond b (Ok tt) (Err LineFull)) (le-leb (length p) v.room h)
-
 pub put_after : {v w : LineView} {p : List ℕ} {r : Result (Unit {0}) Refusal} → Put v p r w → length p ≤ v.room → w ≡ joined v p
 put_after {v} {w} {p} {r} t h = t.after ∙ ap (λ b. cond b (joined v p) v) (le-leb (length p) v.room h)
 

@@ -1,4 +1,4 @@
--- The full sizes that a line may have.
+-- The full sizes that a line may have, and the lengths of the pieces in which bytes go through it.
 use Rattle.std.specs.Prelude.{ℕ, ◌≤◌}
 use Rattle.layout.specs.Limits.{packet_limit}
 
@@ -10,3 +10,6 @@ largest_size = 1048576
 
 abbrev pub LineSize : ℕ → Type 0
 LineSize n = (smallest_size ≤ n) × (n ≤ largest_size)
+
+abbrev pub PieceLength : ℕ → Type 0
+PieceLength n = (1 ≤ n) × (n ≤ packet_limit)

@@ -10,9 +10,9 @@
 #![tactic(auto)]
 
 pub mod lines;
-pub mod making;
+pub mod sizes;
 pub mod transfers;
 
 pub use lines::{Line, SteadyLine};
-pub use making::{LARGEST_SIZE, SMALLEST_SIZE, is_line_size};
+pub use sizes::{LARGEST_SIZE, LONGEST_PIECE, SMALLEST_SIZE, is_line_size, is_piece_length};
 pub use transfers::transfer;

@@ -1,8 +1,9 @@
 -- What each call on a log answers, and what the log and the buffer hold then.
-use Rattle.std.specs.Prelude.{◌≡◌, ℕ, ◌+◌, ◌-◌, Bool, true, false, cond, ◌&&◌, List, ◌++◌, length, drop, Ok, Err, Result, ◌==◌, nat_le, nat_lt}
+use Rattle.std.specs.Prelude.{◌≡◌, ℕ, ◌+◌, ◌-◌, Bool, true, false, cond, ◌&&◌, List, length, Ok, Err, Result, ◌==◌, nat_le, nat_lt}
 use Rattle.std.specs.Borrow.{Bor}
 use Rattle.fault.specs.declared.refusals.Refusal.{Refusal}
 use Rattle.fault.specs.declared.refusals.Refusal.TheVariants.{MessageTooLong, SessionZero, NoSuchMessage, ShortBuffer, LogFull, NoSession}
+use Rattle.memory.specs.Memory.{laid}
 use Rattle.layout.specs.Limits.{message_limit}
 use Rattle.message_log.specs.Meaning.{Meaning, room, nth, count}
 
@@ -43,9 +44,9 @@ placed_in b n = cond (nat_le n b) (Ok n) (Err ShortBuffer)
 abbrev pub reads : Meaning → ℕ → ℕ → Result ℕ Refusal
 reads l n b = cond (has l n) (placed_in b (length (nth l n))) (Err NoSuchMessage)
 
--- message m stands at the front of a buffer, whose rest stays
+-- message m is laid at the front of a buffer, whose rest stays
 abbrev pub fronted : List ℕ → List ℕ → List ℕ
-fronted m buf = m ++ drop (length m) buf
+fronted m buf = laid buf 0 m
 
 -- a log that keeps its messages in memory lends message n
 abbrev pub Lent : Meaning → ℕ → Result (Bor (List ℕ)) Refusal → Type 0

@@ -1,11 +1,6 @@
 -- A pacing layer over a line, as a line.
-use Rattle.std.specs.Prelude.{ℕ, ◌≤◌, min}
-use Rattle.layout.specs.Limits.{packet_limit}
+use Rattle.std.specs.Prelude.{ℕ, min}
 use Rattle.line.specs.Lines.{LineView}
-
--- The numbers that a layer may pace by.
-abbrev pub Pace : ℕ → Type 0
-Pace n = (1 ≤ n) × (n ≤ packet_limit)
 
 -- The line under it, but for the hand-out limit.
 abbrev pub paced_view : LineView → ℕ → LineView

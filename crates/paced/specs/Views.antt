@@ -7,9 +7,10 @@ use borrow.Rule.Slice.PartMut.{post_of}
 use lib.ListN.{length, take, length-take}
 use Rattle.line.specs.Lines.{LineView, Sound, Taken}
 use Rattle.line.proofs.Takes.{part_front}
-use Rattle.paced.specs.Pacing.{Pace, paced_view}
+use Rattle.line.specs.Sizes.{PieceLength}
+use Rattle.paced.specs.Pacing.{paced_view}
 
-pub paced_sound : {v : LineView} {n : ℕ} → Sound v → Pace n → Sound (paced_view v n)
+pub paced_sound : {v : LineView} {n : ℕ} → Sound v → PieceLength n → Sound (paced_view v n)
 paced_sound s p = record { empty = s.empty; size = s.size; some = omega (arith, s.some, p.0) }
 
 -- the smallest of four numbers, however it is found

@@ -9,4 +9,4 @@
 
 pub mod pacing;
 
-pub use pacing::{LARGEST_PACE, Paced};
+pub use pacing::Paced;

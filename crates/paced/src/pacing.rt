@@ -1,31 +1,28 @@
 //! The pacing layer, and how it is a line.
 ghost use Rattle.std.specs.Prelude.{◌≡◌};
 ghost use Rattle.fault.specs.Making.{Makes};
-ghost use Rattle.paced.specs.Pacing.{Pace, paced_view};
+ghost use Rattle.line.specs.Sizes.{PieceLength};
+ghost use Rattle.paced.specs.Pacing.{paced_view};
 ghost use Rattle.paced.specs.Views.{paced_sound};
 
 use fault::{Refusal, Unmade, allow};
-use layout::PACKET_LIMIT;
-use line::{Line, SteadyLine};
-
-/// The largest number that a layer paces by: the longest packet.
-pub const LARGEST_PACE: usize = PACKET_LIMIT;
+use line::{Line, SteadyLine, is_piece_length};
 
 /// A line over another, with a hand-out limit of its own.
 #[derive(Drop)]
 pub struct Paced<L> {
     line: L,
     pace: usize,
-    ghost ok: { Pace pace },
+    ghost ok: { PieceLength pace },
 }
 
 impl<L: Line> Paced<L> {
     /// A layer over the line given that hands over at most so many bytes a take. A number outside the rules is
     /// refused.
     pub fn new(line: L, pace: usize) -> Result<Paced<L>, Unmade<L>>
-        ensures { Makes (Pace pace) (λ s. ⟦<Paced<L> as Line>⟧.view s ≡ paced_view (L.Line.view line) pace) line result }
+        ensures { Makes (PieceLength pace) (λ s. ⟦<Paced<L> as Line>⟧.view s ≡ paced_view (L.Line.view line) pace) line result }
     {
-        let line = allow((1..=LARGEST_PACE).contains(&pace), line)?;
+        let line = allow(is_piece_length(pace), line)?;
         Ok(Paced { line, pace })
     }
 }

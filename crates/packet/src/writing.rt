@@ -139,9 +139,7 @@ fn put_head(out: &mut [u8], count: u16, letter: u8)
     ensures { out.new ≡ little 2 count ++ (letter ∷ drop 3 out.old) }
 {
     let [low, high] = count.to_le_bytes();
-    out[0] = low;
-    out[1] = high;
-    out[2] = letter;
+    lay(out, 0, &[low, high, letter]);
 }
 
 // The body of a login request.

@@ -2,9 +2,8 @@
 use Rattle.std.specs.Prelude.{ℕ, List, Some, None, Option}
 use Rattle.layout.specs.Limits.{packet_limit}
 use Rattle.line.specs.Lines.{LineView, fresh}
-use Rattle.line.specs.Sizes.{smallest_size}
-use Rattle.paced.specs.Pacing.{Pace, paced_view}
-use Rattle.pumping.specs.Pieces.{PieceLength}
+use Rattle.line.specs.Sizes.{smallest_size, PieceLength}
+use Rattle.paced.specs.Pacing.{paced_view}
 use Rattle.pumping.specs.Pumping.{Pumped}
 use Rattle.pumping.specs.declared.accounts.Account.{Account}
 use Rattle.pump.specs.declared.choices.Choice.{Choice}
@@ -29,12 +28,12 @@ chosen_view (L.Twice outer inner) kind = paced_view (paced_view (kind_view kind)
 -- The numbers of a choice that the rules allow.
 abbrev pub PaceAllowed : Option ℕ → Type 0
 PaceAllowed None = Unit {0}
-PaceAllowed (Some pace) = Pace pace
+PaceAllowed (Some pace) = PieceLength pace
 
 abbrev pub LayersAllowed : Layers → Type 0
 LayersAllowed L.Bare = Unit {0}
-LayersAllowed (L.Once pace) = Pace pace
-LayersAllowed (L.Twice outer inner) = Pace outer × Pace inner
+LayersAllowed (L.Once pace) = PieceLength pace
+LayersAllowed (L.Twice outer inner) = PieceLength outer × PieceLength inner
 
 abbrev pub Allowed : Choice → Type 0
 Allowed choice = PieceLength choice.piece × LayersAllowed choice.layers

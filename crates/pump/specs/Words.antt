@@ -9,6 +9,7 @@ use Rattle.pump.specs.declared.words.Word.TheVariants as W
 abbrev pub Nameless : List ℕ → Type 0
 Nameless text = (text ≢ codes "paced") × (text ≢ codes "ring") × (text ≢ codes "straight")
 
+-- (told in both programs that read words: a crate below both for one line would be no plainer)
 -- decimal digits, after a plus or none, of a number below the machine's limit
 abbrev pub Numeric : List ℕ → Type 0
 Numeric text = IsNumeral 10 (without_leading_plus text) × (digits_value 10 (without_leading_plus text) < 2 ^ 64)

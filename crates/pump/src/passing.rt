@@ -51,17 +51,14 @@ pub fn pass(heap: Global, choice: Choice, input: &[u8]) -> Result<Account, Refus
     ensures refused { IfErr result (λ e. (e ≡ R.SizeOutOfRange → Allowed choice → ⊥)) }
 {
     let piece = PieceSize::new(choice.piece)?;
-    match choice.layers {
-        Layers::Bare => through(heap, make_line(heap, choice.kind, None)?, input, piece),
-        Layers::Once(pace) => through(
-            heap,
-            make_line(heap, choice.kind, Some(pace))?,
-            input,
-            piece,
-        ),
-        Layers::Twice(outer, inner) => {
-            let line = make_line(heap, choice.kind, Some(inner))?;
-            through(heap, Paced::new(line, outer)?, input, piece)
-        }
+    let (outer, inner) = match choice.layers {
+        Layers::Bare => (None, None),
+        Layers::Once(pace) => (None, Some(pace)),
+        Layers::Twice(outer, inner) => (Some(outer), Some(inner)),
+    };
+    let line = make_line(heap, choice.kind, inner)?;
+    match outer {
+        None => through(heap, line, input, piece),
+        Some(pace) => through(heap, Paced::new(line, pace)?, input, piece),
     }
 }

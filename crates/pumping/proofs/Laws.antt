@@ -57,16 +57,6 @@ pub steps_whole : {input : List ℕ} {size : ℕ} {s t : Pump} → Steps input s
 steps_whole none h = h
 steps_whole (more a b) h = step_whole b (steps_whole a h)
 
--- A line that lacks room for a piece has something waiting.
-pub some_waits : {v : LineView} {n : ℕ} → Sound v → v.room < n → n ≤ packet_limit → 0 < length v.waiting
-some_waits {v} {n} s h k = by_case (cases_lt 0 (length v.waiting))
-  where
-    by_case : (0 < length v.waiting) ⊎ (length v.waiting ≤ 0) → 0 < length v.waiting
-    by_case (inl i) = i
-    by_case (inr z) =
-        let e : v.waiting ≡ [] = nil_from_length v.waiting (omega arith) in
-        absurd (omega (arith, s.empty e, s.size.0))
-
 -- The states before and after, put together from what the account says.
 same_pump : {o p : List ℕ} {d e : _} (v : LineView) (fed : List ℕ) → o ≡ p → d ≡ e →
     ◌≡◌ {A = Pump} (record { line = v; fed = fed; out = o; deeds = d }) (record { line = v; fed = fed; out = p; deeds = e })

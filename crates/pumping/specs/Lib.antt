@@ -1,4 +1,3 @@
-pub mod Pieces
 pub mod Tallies
 pub mod Pumping
 pub mod Pumpers

@@ -1,10 +1,10 @@
 //! The length of the pieces of a run.
 ghost use Rattle.std.specs.Prelude.{◌≡◌, MatchResult};
-ghost use Rattle.pumping.specs.Pieces.{PieceLength};
+ghost use Rattle.line.specs.Sizes.{PieceLength};
 ghost use Rattle.fault.specs.declared.refusals.Refusal.TheVariants.{SizeOutOfRange};
 
 use fault::Refusal;
-use layout::PACKET_LIMIT;
+use line::is_piece_length;
 
 /// A length that pieces may have: 1 to the longest packet, so that each fits an empty line.
 #[derive(Clone, Copy)]
@@ -18,7 +18,7 @@ impl PieceSize {
     pub fn new(bytes: usize) -> Result<PieceSize, Refusal>
         ensures { MatchResult result (λ p. p.bytes ≡ bytes) (λ e. (e ≡ SizeOutOfRange) × (PieceLength bytes → ⊥)) }
     {
-        if !(1..=PACKET_LIMIT).contains(&bytes) {
+        if !is_piece_length(bytes) {
             return Err(Refusal::SizeOutOfRange);
         }
         Ok(PieceSize { bytes })

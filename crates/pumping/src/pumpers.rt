@@ -1,6 +1,6 @@
 //! What a run works with.
 ghost use Rattle.std.specs.Prelude.{◌≡◌, [], IfOk, vec_len};
-ghost use Rattle.pumping.specs.Pieces.{PieceLength};
+ghost use Rattle.line.specs.Sizes.{PieceLength};
 
 use crate::accounts::Account;
 use crate::pieces::PieceSize;

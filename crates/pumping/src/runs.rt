@@ -21,7 +21,8 @@ impl Pumper {
     }
 
     /// Takes until so many bytes have room.
-    // Not one loop with `drain`, with a test that is passed in: that each ends rests on what its own test says.
+    // One loop for this and `drain`, with a test that is passed in, would be no plainer: that each ends rests on what its
+    // own test says.
     fn make_room<L: Line>(&mut self, line: &mut L, bytes: usize) -> Result<(), AllocError>
         requires { bytes ≤ packet_limit }
         ensures { OnOk result (Drawn (L.Line.view line.old) self.old (L.Line.view line.new) self.new × (bytes ≤ (L.Line.view line.new).room)) }

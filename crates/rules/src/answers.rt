@@ -12,6 +12,7 @@ pub enum Received {
     /// A packet with this letter was acted on.
     Acted(Letter),
     /// An unsequenced packet was read: its message stands in the frame, at this place, this long.
+    // Two numbers and no slice: the frame is lent anew to each call, so no answer borrows from it.
     Message { place: usize, length: usize },
 }
 

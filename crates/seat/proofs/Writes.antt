@@ -10,7 +10,6 @@ use Rattle.line.specs.Lines.{LineView, joined, fits}
 use Rattle.message_log.specs.Meaning.{Meaning}
 use Rattle.message_log.specs.Calls.{settled, fronted}
 use Rattle.framing.specs.Posting.{Posted, posting, roomy}
-use Rattle.framing.proofs.Valid.{posting_valid}
 use Rattle.rules.specs.State.{Pair}
 use Rattle.rules.specs.Changes.{grants, refuses, with_seat, seat_writes}
 use Rattle.rules.specs.Hub as Hub

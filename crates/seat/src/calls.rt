@@ -52,6 +52,7 @@ impl Seat {
             unsent: 0,
             silent: 0,
         };
+        // Field by field, as the contract says it; a function for this would have to say it once more.
         let login = Login {
             version: &SPOKEN_VERSION,
             user: &account.user,

@@ -46,7 +46,8 @@ impl Seat {
         Ok(Some(due.packet.letter()))
     }
 
-    // Writes a packet, if the line has the room for it.
+    // Writes a packet, if the line has the room for it. Whoever calls it has refused a shorter buffer; the buffer is lent
+    // to each call apart, so no type has that it is long enough.
     pub(crate) fn write<U: Line>(
         &mut self,
         packet: Packet<'_>,

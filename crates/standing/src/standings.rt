@@ -99,7 +99,7 @@ impl Standing {
             (SeatPhase::Apart, _) => &[],
             (SeatPhase::Asking, _) => &ASKING,
             (SeatPhase::Live, None) => &LIVE,
-            (SeatPhase::Live, Some(_)) => &FETCHING,
+            (SeatPhase::Live, Some(_)) => &LIVE[..LIVE.len() - 1],
         }
     }
 
@@ -145,6 +145,7 @@ pub fn may_connect<G: Log>(how: How, log: &G) -> Result<(), Refusal>
 
 const ASKING: [Letter; 2] = [Letter::LoginResponse, Letter::GoodBye];
 
+// Synchronization complete stands last: a fetch takes all the others.
 const LIVE: [Letter; 7] = [
     Letter::Sequenced,
     Letter::Unsequenced,
@@ -153,13 +154,4 @@ const LIVE: [Letter; 7] = [
     Letter::HubHeartbeat,
     Letter::Test,
     Letter::SynchronizationComplete,
-];
-
-const FETCHING: [Letter; 6] = [
-    Letter::Sequenced,
-    Letter::Unsequenced,
-    Letter::GoodBye,
-    Letter::EndOfSession,
-    Letter::HubHeartbeat,
-    Letter::Test,
 ];

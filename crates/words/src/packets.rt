@@ -3,7 +3,9 @@
 //! What makes a row is given the heap beside the output, as std's calls are: a struct of the two would be taken
 //! apart again at each call.
 use crate::texts::Text;
+use capture::Found;
 use dump::{ROW, row};
+use layout::{Letter, Status};
 use packet::{Login, Packet, Reader};
 use std::alloc::Global;
 use std::fmt::Display;
@@ -15,54 +17,73 @@ pub fn show_packet<W: Write>(
     heap: Global,
     out: &mut W,
     offset: u64,
-    size: usize,
-    packet: Packet<'_>,
+    found: Found<'_>,
 ) -> io::Result<()> {
-    let letter = packet.letter();
-    let byte = char::from(u8::from(letter));
-    write!(out, "{offset:>10} {size:>6}  {byte} {letter}")?;
+    let Found { packet, size } = found;
+    show_head(out, offset, size, packet.letter())?;
     match packet {
         Packet::LoginRequest(login) => show_login(out, login),
         Packet::LoginResponse {
             status,
             session,
             highest,
-        } => {
-            let code = char::from(u8::from(status));
-            writeln!(
-                out,
-                ": status '{code}' ({status}), session {session}, highest {highest}"
-            )
-        }
+        } => show_response(out, status, session, highest),
         Packet::Sequenced { number, message } => {
-            write!(out, ": number {number}, ")?;
+            show_number(out, number)?;
             show_message(heap, out, message)
         }
         Packet::Unsequenced { message } => {
-            write!(out, ": ")?;
+            out.write_all(b": ")?;
             show_message(heap, out, message)
         }
-        Packet::RetransmissionRequest { start, end } => writeln!(out, ": start {start}, end {end}"),
-        Packet::LogoutRequest { reason, text } => show_leaving(out, u8::from(reason), reason, text),
-        Packet::GoodBye { reason, text } => show_leaving(out, u8::from(reason), reason, text),
-        Packet::Test { text } => {
-            let text = Text(text);
-            writeln!(out, ": text {text}")
-        }
+        Packet::RetransmissionRequest { start, end } => show_request(out, start, end),
+        Packet::LogoutRequest { reason, text } => show_leaving(out, reason, text),
+        Packet::GoodBye { reason, text } => show_leaving(out, reason, text),
+        Packet::Test { text } => show_text(out, text),
         Packet::SynchronizationComplete
         | Packet::EndOfSession
         | Packet::HubHeartbeat
-        | Packet::SeatHeartbeat => writeln!(out),
+        | Packet::SeatHeartbeat => out.write_all(b"\n"),
     }
 }
 
-// Why an end leaves: the reason with its byte in the packet, and a text.
-fn show_leaving<W: Write, R: Display + Copy>(
+// What stands before the fields.
+fn show_head<W: Write>(out: &mut W, offset: u64, size: usize, letter: Letter) -> io::Result<()> {
+    let byte = char::from(u8::from(letter));
+    write!(out, "{offset:>10} {size:>6}  {byte} {letter}")
+}
+
+fn show_response<W: Write>(
     out: &mut W,
-    byte: u8,
+    status: Status,
+    session: u8,
+    highest: u64,
+) -> io::Result<()> {
+    let code = char::from(u8::from(status));
+    write!(out, ": status '{code}' ({status})")?;
+    writeln!(out, ", session {session}, highest {highest}")
+}
+
+fn show_number<W: Write>(out: &mut W, number: u64) -> io::Result<()> {
+    write!(out, ": number {number}, ")
+}
+
+fn show_request<W: Write>(out: &mut W, start: u64, end: u64) -> io::Result<()> {
+    writeln!(out, ": start {start}, end {end}")
+}
+
+fn show_text<W: Write>(out: &mut W, text: &[u8]) -> io::Result<()> {
+    let text = Text(text);
+    writeln!(out, ": text {text}")
+}
+
+// Why an end leaves: the reason with its byte in the packet, and a text.
+fn show_leaving<W: Write, R: Display + Copy + Into<u8>>(
+    out: &mut W,
     reason: R,
     text: &[u8],
 ) -> io::Result<()> {
+    let byte: u8 = reason.into();
     let code = char::from(byte);
     let text = Text(text);
     writeln!(out, ": reason '{code}' ({reason}), text {text}")

@@ -36,8 +36,6 @@ fn show_fault<W: Write>(out: &mut W, offset: u64, fault: Fault) -> io::Result<()
     let cause = fault.cause();
     let place = fault.place();
     let at = offset.saturating_add(place as u64);
-    writeln!(
-        out,
-        "with a fault: {layer} layer, cause {cause} ({fault}), place {place}, offset {at}"
-    )
+    write!(out, "with a fault: {layer} layer, cause {cause} ({fault})")?;
+    writeln!(out, ", place {place}, offset {at}")
 }

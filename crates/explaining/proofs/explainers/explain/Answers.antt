@@ -1,11 +1,8 @@
-use Rattle.explaining.proofs.Turns.{reached_none, reached_more, reached_end}
+use Rattle.explaining.proofs.Turns.{reached_none, reached_end}
 use Rattle.explaining.proofs.explainers.explain.Goals as goal
 
 pub loop-init : goal.loop-init
 loop-init g c = reached_none _ c.new-explainer.ensures.fresh
-
-pub loop-preserved : goal.loop-preserved
-loop-preserved g c = reached_more _ _ c.loop.invariant c.turn.result c.turn.ensures.turned
 
 pub returns-in-Some : goal.returns-in-Some
 returns-in-Some g c = reached_end _ _ c.loop.invariant c.in_ok-ending.field-0 c.in-Some.ending c.in-Some.is c.in_ok-ending.ensures.turned

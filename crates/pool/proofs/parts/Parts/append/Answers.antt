@@ -4,7 +4,6 @@ use Rattle.memory.specs.Memory.{laid}
 use Rattle.memory.proofs.Laid.{take_laid, length_laid, laid_laid}
 use Rattle.pool.specs.Kept.{used}
 use Rattle.pool.proofs.Runs.{between_both}
-use Rattle.pool.proofs.Edges.{edge_more}
 use Rattle.pool.proofs.Keeping.{fit_kept, parts_more_kept, kept_more}
 use Rattle.pool.proofs.parts.Parts.append.Goals as goal
 
@@ -16,15 +15,6 @@ returns-clause-memory g c =
     let u = used g.row.BASE g.row.GAP s in
     let fit = fit_kept g.row.BASE g.row.GAP s (length m) (sym c.would_take.ensures ∙ c.in_ok-would_take.was) in
     let both = laid_laid s.memory.items a m u (u + g.row.GAP) (omega arith) (omega arith) in
-    cc
-
-pub returns-clause-used : goal.returns-clause-used
-returns-clause-used g c =
-    let s = c.args.self.now in
-    let n = length c.args.message.now in
-    let u = used g.row.BASE g.row.GAP s in
-    let fit = fit_kept g.row.BASE g.row.GAP s n (sym c.would_take.ensures ∙ c.in_ok-would_take.was) in
-    let more = edge_more g.row.BASE g.row.GAP s.ends.items s.count u n (u + g.row.GAP + n) fit.2 s.rising refl refl in
     cc
 
 pub returns-clause-after : goal.returns-clause-after

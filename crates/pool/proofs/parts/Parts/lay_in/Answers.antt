@@ -8,6 +8,3 @@ invariant_of-self-clause-bytes g c =
     let m = c.args.piece.now in
     let is = laid_over s.memory _ _ m c.args.at c.deref_mut.ensures.value c.lay.ensures (omega arith) in
     rw is (bytes_laid s.memory.items c.args.at m s.bytes (λ i. let f = c.type_inv.piece i in omega arith))
-
-pub returns-clause-memory : goal.returns-clause-memory
-returns-clause-memory g c = laid_over c.args.self.now.memory _ _ c.args.piece.now c.args.at c.deref_mut.ensures.value c.lay.ensures (omega arith)
