@@ -1,3 +1,4 @@
 pub mod Posts
 pub mod Messages
 pub mod Takes
+pub mod Fills

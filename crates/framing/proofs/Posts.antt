@@ -54,3 +54,10 @@ unwritten v r x d o o' e b w =
 -- a packet that the line has no room for
 pub no_room : (v : Value) (d : LineView) (o : List ℕ) (n : ℕ) → n ≡ length (encode v) → d.room < n → Posted v (posting v d (length o)) d o (Err LineFull) d o
 no_room v d o n e h = refused v (posting v d (length o)) LineFull d o (cond-false _ _ _ (lacking v d n e h))
+
+-- the room decided for it
+pub roomy_granted : (v : Value) (d : LineView) (x : Unit {0}) → roomy v d ≡ Ok x → fits d (encode v) ≡ true
+roomy_granted v d x = cut (fits d (encode v)) _ _ (Ok x) _ (λ t e. t) (λ t e. cc)
+
+pub roomy_refused : (v : Value) (d : LineView) (e : Refusal) → roomy v d ≡ Err e → (fits d (encode v) ≡ false) × (e ≡ LineFull)
+roomy_refused v d e = cut (fits d (encode v)) _ _ (Err e) _ (λ t q. cc) (λ t q. (t, cc))

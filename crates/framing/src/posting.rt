@@ -3,7 +3,7 @@
 ghost use Rattle.std.specs.Prelude.{◌≡◌, ◌+◌, ◌≤◌, true, ◌∷◌, ◌++◌, length};
 ghost use Rattle.layout.specs.Limits.{message_limit, packet_limit};
 ghost use Rattle.layout.specs.Numbers.{little};
-ghost use Rattle.line.specs.Lines.{Put};
+ghost use Rattle.line.specs.Lines.{Put, fits};
 ghost use Rattle.message_log.specs.Meaning.{nth};
 ghost use Rattle.message_log.specs.Calls.{has, fronted};
 ghost use Rattle.packet.specs.Meanings.{value_of};
@@ -16,6 +16,13 @@ use line::Line;
 use memory::lay;
 use message_log::Log;
 use packet::Packet;
+
+/// Whether the line has the room for a packet.
+pub fn has_room<L: Line>(packet: Packet<'_>, line: &L) -> bool
+    ensures { result ≡ fits (L.Line.view line.now) (encode (value_of packet.entry)) }
+{
+    packet.size() <= line.room() as u128
+}
 
 /// Writes the packet at the front of `out` and puts it on the line. A line that lacks the room is told first, then a
 /// short buffer, then a packet that could not be read back; a refusal changes nothing.

@@ -1,0 +1,41 @@
+-- What it means where a hub stands.
+use Rattle.std.specs.Prelude.{List, None}
+use Rattle.message_log.specs.Meaning.{Meaning}
+use Rattle.account.specs.declared.rows.Row.{Row}
+use Rattle.rules.specs.declared.phases.HubPhase.{HubPhase}
+use Rattle.rules.specs.declared.phases.HubPhase.TheVariants.{Shut, Waiting, Answering, Rejecting, Serving, Filling}
+use Rattle.rules.specs.State.{Pair}
+use Rattle.rules.specs.Changes.{hub_to, hub_leaves}
+use Rattle.footing.specs.declared.footings.Footing.{Footing}
+
+-- with no connection, and nobody logged in
+abbrev pub shut : Footing
+shut = record { phase = Shut; row = None }
+
+-- a pair whose hub stands so, with this log and these rows: frame, counts and all else are those of the pair
+abbrev pub stands_in : Footing → Meaning → List Row → Pair → Pair
+stands_in f log rows p =
+    record {
+      running = record { log = log; finished = p.running.finished };
+      hub = record { phase = f.phase; row = f.row; frame = p.hub.frame; unsent = p.hub.unsent; silent = p.hub.silent; waited = p.hub.waited };
+      seat = p.seat;
+      held = p.held;
+      up = p.up;
+      down = p.down;
+      rows = rows;
+      account = p.account;
+      buffers = p.buffers;
+    }
+
+-- nobody is logged in any more, in the phase that it is
+abbrev pub logged_out : Pair → Pair
+logged_out s = hub_leaves s.hub.phase s
+
+-- a phase is entered: where the hub is shut or waits for a login, nobody is logged in
+abbrev pub enters : HubPhase → Pair → Pair
+enters Shut s = hub_leaves Shut s
+enters Waiting s = hub_leaves Waiting s
+enters (Answering asked) s = hub_to (Answering asked) s
+enters (Rejecting status) s = hub_to (Rejecting status) s
+enters (Serving asked next owed) s = hub_to (Serving asked next owed) s
+enters (Filling next last) s = hub_to (Filling next last) s

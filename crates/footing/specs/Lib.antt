@@ -1,0 +1,3 @@
+pub mod Footings
+pub mod Acts
+pub mod Dues

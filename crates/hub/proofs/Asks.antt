@@ -1,0 +1,54 @@
+-- What the calls that are neither a receive nor a send come to.
+use Rattle.std.proofs.Common.{◌≡◌, ℕ, ◌≤◌, Bool, true, false, cond, ◌&&◌, ltb, leb, List, [], length, sym, refl, ap, ◌∙◌}
+use Rattle.std.proofs.lemmas.Bool.{cond-true, cond-false, le-ltb}
+use Rattle.layout.specs.Limits.{message_limit}
+use Rattle.layout.specs.declared.goodbyes.GoodByeReason.{GoodByeReason}
+use Rattle.layout.specs.declared.goodbyes.GoodByeReason.TheVariants as G
+use Rattle.packet.specs.Values.{Value, encode, good_bye, unsequenced}
+use Rattle.line.specs.Lines.{fits}
+use Rattle.rules.specs.declared.phases.HubPhase.{HubPhase}
+use Rattle.rules.specs.declared.phases.HubPhase.TheVariants.{Shut, Waiting, Answering, Rejecting, Serving, Filling}
+use Rattle.rules.specs.State.{Pair}
+use Rattle.rules.specs.Changes.{hub_leaves, hub_writes}
+use Rattle.rules.specs.Calls.{done, is_serving, waiting_limit, silence_limit, counted, hub_timed}
+use Rattle.rules.specs.Rounds.{too_short}
+use Rattle.rules.specs.Hub.{hub_gone}
+use Rattle.rules.specs.Sides.{hub_side_of}
+use Rattle.framing.specs.Calling.{unless_short}
+use Rattle.hub.specs.Asks.{tells, times}
+
+and_none : (b : Bool) → (b && false) ≡ false
+and_none true = refl
+and_none false = refl
+
+pub tells_granted : (m : List ℕ) (s : Pair) → length m ≤ message_limit → too_short s.buffers.out ≡ false → fits s.down (encode (unsequenced m)) ≡ true → is_serving s.hub.phase ≡ true →
+    done (hub_writes (unsequenced m) s) ≡ tells m s
+tells_granted m s h a f p =
+    sym (cond-false _ _ _ (ap (λ (b : Bool). leb (length m) message_limit && b) a ∙ and_none (leb (length m) message_limit))
+    ∙ cond-false _ _ _ (le-ltb message_limit (length m) h)
+    ∙ cond-true _ _ _ f
+    ∙ cond-true _ _ _ p)
+
+-- the hub's side after a tick is that of a tick on the side
+gone_side : (r : GoodByeReason) (s : Pair) → hub_side_of (hub_gone r s) ≡ hub_gone r (hub_side_of s)
+gone_side r s = go (fits s.down (encode (good_bye r [])))
+  where
+    go : (b : Bool) → hub_side_of (hub_leaves Shut (cond b (hub_writes (good_bye r []) s) s)) ≡ hub_leaves Shut (cond b (hub_writes (good_bye r []) (hub_side_of s)) (hub_side_of s))
+    go true = refl
+    go false = refl
+
+side_cond : (b : Bool) (x y u v : Pair) → hub_side_of x ≡ u → hub_side_of y ≡ v → hub_side_of (cond b x y) ≡ cond b u v
+side_cond true x y u v e f = e
+side_cond false x y u v e f = f
+
+timed_side : (h : HubPhase) (s : Pair) → hub_side_of (hub_timed h s) ≡ hub_timed h (hub_side_of s)
+timed_side Shut s = refl
+timed_side Waiting s = side_cond (ltb waiting_limit s.hub.waited) _ _ _ _ (gone_side G.LoginTimeout s) refl
+timed_side (Answering asked) s = refl
+timed_side (Rejecting status) s = refl
+timed_side (Serving asked next owed) s = side_cond (ltb silence_limit s.hub.silent) _ _ _ _ refl refl
+timed_side (Filling next last) s = refl
+
+pub times_granted : (s t : Pair) → too_short s.buffers.out ≡ false → t ≡ hub_timed s.hub.phase (hub_side_of (counted s)) → done t ≡ unless_short times s
+times_granted s t a e =
+    ap (λ (x : Pair). done x) (e ∙ sym (timed_side s.hub.phase (counted s))) ∙ sym (cond-false _ _ _ a)

@@ -1,0 +1,25 @@
+-- What a hub means, and its side of a pair.
+use Rattle.std.specs.Prelude.{ℕ, false, List, take}
+use Rattle.line.specs.Lines.{LineView}
+use Rattle.message_log.specs.Meaning.{Meaning}
+use Rattle.account.specs.declared.rows.Row.{Row}
+use Rattle.rules.specs.State.{Running, HubEnd, Pair}
+use Rattle.rules.specs.Sides.{hub_side}
+use Rattle.hub.specs.declared.hubs.Hub.{Hub}
+
+-- the meaning of a hub whose frame lies at the front of this buffer
+abbrev pub end_of : Hub → List ℕ → HubEnd
+end_of h buffer =
+    record { phase = h.footing.phase; row = h.footing.row; frame = take h.filled buffer; unsent = h.unsent; silent = h.silent; waited = h.waited }
+
+-- its session, in this log
+abbrev pub running_of : Hub → Meaning → Running
+running_of h log = record { log = log; finished = h.finished }
+
+-- a session that is not finished
+abbrev pub begins : Meaning → Running
+begins log = record { log = log; finished = false }
+
+-- its side of a pair: its log, the up and the down line, the rows in use, the buffer of its frame, and the outgoing one
+abbrev pub side_of : Hub → Meaning → LineView → LineView → List Row → List ℕ → List ℕ → Pair
+side_of h log up down rows frame out = hub_side (running_of h log) (end_of h frame) up down rows frame out

@@ -1,0 +1,4 @@
+pub mod Ends
+pub mod Receives
+pub mod Sends
+pub mod Asks

@@ -1,0 +1,12 @@
+-- What a send does to the hub's side of a pair.
+use Rattle.std.specs.Prelude.{Option}
+use Rattle.layout.specs.declared.letters.Letter.{Letter}
+use Rattle.rules.specs.State.{Pair, Outcome}
+use Rattle.rules.specs.Hub.{Sending, hub_sends}
+
+-- a send, but for the packet that it wrote: its caller is told the letter
+abbrev pub told : Sending → Outcome (Option Letter)
+told x = record { answer = x.answer; after = x.after }
+
+abbrev pub sends : Pair → Outcome (Option Letter)
+sends s = told (hub_sends s)

@@ -1,0 +1,115 @@
+//! The calls of a hub on its connection that neither take from a line nor send what is due.
+//! Those that may be refused judge everything before they change anything.
+ghost use Rattle.std.specs.Prelude.{◌≡◌, ℕ, ◌≤◌, List, length};
+ghost use Rattle.account.specs.declared.rows.Row.{Row};
+ghost use Rattle.layout.specs.Limits.{packet_limit};
+ghost use Rattle.line.specs.Lines.{LineView, cleared};
+ghost use Rattle.message_log.specs.Meaning.{Meaning};
+ghost use Rattle.framing.specs.Calling.{answered, unless_short};
+ghost use Rattle.rules.specs.Calls.{cut, hub_timed};
+ghost use Rattle.rules.specs.Sides.{hub_side_of};
+ghost use Rattle.hub.specs.Ends.{side_of};
+ghost use Rattle.hub.specs.Asks.{awaits, clears, tells, times};
+
+use crate::hubs::Hub;
+use account::Accounts;
+use fault::Refusal;
+use framing::{SILENCE_LIMIT, has_room, one_more};
+use layout::{GoodByeReason, MESSAGE_LIMIT, PACKET_LIMIT};
+use line::Line;
+use packet::Packet;
+use rules::HubPhase;
+
+// A wait for a login that is longer than so many ticks ends the connection.
+const WAITING_LIMIT: u16 = 300;
+
+impl Hub {
+    /// A seat connects: the down line is cleared, and the hub waits for a login, with frame and counts cleared. A login
+    /// that was served is over.
+    pub fn await_login<D: Line>(&mut self, accounts: &mut Accounts, down: &mut D)
+        ensures { (log : Meaning) (up : LineView) (frame out : List ℕ) → side_of self.new log (cleared up) (D.Line.view down.new) accounts.new.rows frame out ≡ awaits (side_of self.old log up (D.Line.view down.old) accounts.old.rows frame out) }
+    {
+        down.clear();
+        self.reset(HubPhase::Waiting, accounts);
+    }
+
+    /// Its connection is cut, and the lines are cleared: it is shut, with frame and counts cleared.
+    pub fn cut(&mut self, accounts: &mut Accounts)
+        ensures { (log : Meaning) (up down : LineView) (frame out : List ℕ) → side_of self.new log (cleared up) (cleared down) accounts.new.rows frame out ≡ hub_side_of (cut (side_of self.old log up down accounts.old.rows frame out)) }
+    {
+        self.reset(HubPhase::Shut, accounts);
+    }
+
+    // Enters a phase with frame and counts cleared.
+    fn reset(&mut self, phase: HubPhase, accounts: &mut Accounts)
+        ensures { (log : Meaning) (up down : LineView) (frame out : List ℕ) → side_of self.new log (cleared up) (cleared down) accounts.new.rows frame out ≡ clears phase (side_of self.old log up down accounts.old.rows frame out) }
+    {
+        self.footing.enter(phase, accounts);
+        self.filled = 0;
+        self.unsent = 0;
+        self.silent = 0;
+        self.waited = 0;
+    }
+
+    /// Tells an unsequenced message. Refuses by `MessageTooLong`, `ShortBuffer`, `LineFull`, and where it does not
+    /// serve by `WrongPhase`, in this order; a refusal changes nothing.
+    pub fn tell<D: Line>(
+        &mut self,
+        message: &[u8],
+        down: &mut D,
+        out: &mut [u8],
+    ) -> Result<(), Refusal>
+        ensures { (log : Meaning) (up : LineView) (rows : List Row) (frame : List ℕ) → answered result (side_of self.new log up (D.Line.view down.new) rows frame out.new) ≡ tells message.now (side_of self.old log up (D.Line.view down.old) rows frame out.old) }
+    {
+        if message.len() > MESSAGE_LIMIT {
+            return Err(Refusal::MessageTooLong);
+        }
+        if out.len() < PACKET_LIMIT {
+            return Err(Refusal::ShortBuffer);
+        }
+        let packet = Packet::Unsequenced { message };
+        if !has_room(packet, down) {
+            return Err(Refusal::LineFull);
+        }
+        if !self.footing.is_serving() {
+            return Err(Refusal::WrongPhase);
+        }
+        self.write(packet, down, out)
+    }
+
+    /// A tick passes: the counts go up. A hub that serves ends a connection that was silent for too long, and one that
+    /// waited too long for a login says goodbye. Refuses by `ShortBuffer`, with nothing changed.
+    pub fn tick<D: Line>(
+        &mut self,
+        accounts: &mut Accounts,
+        down: &mut D,
+        out: &mut [u8],
+    ) -> Result<(), Refusal>
+        ensures { (log : Meaning) (up : LineView) (frame : List ℕ) → answered result (side_of self.new log up (D.Line.view down.new) accounts.new.rows frame out.new) ≡ unless_short times (side_of self.old log up (D.Line.view down.old) accounts.old.rows frame out.old) }
+    {
+        if out.len() < PACKET_LIMIT {
+            return Err(Refusal::ShortBuffer);
+        }
+        self.unsent = one_more(self.unsent);
+        self.silent = one_more(self.silent);
+        self.waited = one_more(self.waited);
+        self.time_out(accounts, down, out);
+        Ok(())
+    }
+
+    // Ends a connection that was silent for too long, and a wait for a login that was too long.
+    fn time_out<D: Line>(&mut self, accounts: &mut Accounts, down: &mut D, out: &mut [u8])
+        requires { packet_limit ≤ length out.old }
+        ensures { (log : Meaning) (up : LineView) (frame : List ℕ) → side_of self.new log up (D.Line.view down.new) accounts.new.rows frame out.new ≡ hub_timed self.old.footing.phase (side_of self.old log up (D.Line.view down.old) accounts.old.rows frame out.old) }
+    {
+        match self.footing.phase() {
+            HubPhase::Waiting if self.waited > WAITING_LIMIT => {
+                self.dismiss(GoodByeReason::LoginTimeout, accounts, down, out);
+            }
+            HubPhase::Serving { .. } if self.silent > SILENCE_LIMIT => {
+                self.footing.enter(HubPhase::Shut, accounts);
+            }
+            _ => {}
+        }
+    }
+}

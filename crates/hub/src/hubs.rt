@@ -1,0 +1,55 @@
+//! The hub's end of a connection.
+//! What it holds from call to call; log, table, lines and buffers are lent.
+ghost use Rattle.std.specs.Prelude.{◌≡◌, ℕ, List};
+ghost use Rattle.message_log.specs.Meaning.{Meaning};
+ghost use Rattle.rules.specs.Sides.{no_hub};
+ghost use Rattle.hub.specs.Ends.{begins, end_of, running_of};
+
+use footing::Footing;
+use rules::HubPhase;
+
+/// A hub: where it stands with its connection, whether its session is finished, its frame and its counts.
+#[derive(Clone, Copy)]
+pub struct Hub {
+    pub(crate) footing: Footing,
+    /// Whether publishing is finished in the session of its log.
+    pub(crate) finished: bool,
+    /// How many bytes of a packet that is not whole yet stand at the front of its frame's buffer, which is lent anew at
+    /// each call.
+    pub(crate) filled: usize,
+    /// Ticks since it wrote a packet, since it took a byte, and since the connect.
+    pub(crate) unsent: u16,
+    pub(crate) silent: u16,
+    pub(crate) waited: u16,
+}
+
+impl Hub {
+    /// A hub with no connection, whose session is not finished.
+    pub fn new() -> Hub
+        ensures end { (frame : List ℕ) → end_of result frame ≡ no_hub }
+        ensures running { (log : Meaning) → running_of result log ≡ begins log }
+    {
+        Hub {
+            footing: Footing::new(),
+            finished: false,
+            filled: 0,
+            unsent: 0,
+            silent: 0,
+            waited: 0,
+        }
+    }
+
+    /// Where it stands with its connection.
+    pub fn phase(&self) -> HubPhase
+        ensures { (frame : List ℕ) → result ≡ (end_of self.now frame).phase }
+    {
+        self.footing.phase()
+    }
+
+    /// Whether publishing is finished in the session of its log.
+    pub fn is_finished(&self) -> bool
+        ensures { (log : Meaning) → result ≡ (running_of self.now log).finished }
+    {
+        self.finished
+    }
+}
