@@ -8,9 +8,13 @@ use Rattle.rules.specs.State.{Pair}
 use Rattle.rules.specs.Changes.{hub_to, hub_leaves}
 use Rattle.footing.specs.declared.footings.Footing.{Footing}
 
--- with no connection, and nobody logged in
+-- with nobody logged in, in this phase
+abbrev pub left_in : HubPhase → Footing
+left_in phase = record { phase = phase; row = None }
+
+-- with no connection
 abbrev pub shut : Footing
-shut = record { phase = Shut; row = None }
+shut = left_in Shut
 
 -- a pair whose hub stands so, with this log and these rows: frame, counts and all else are those of the pair
 abbrev pub stands_in : Footing → Meaning → List Row → Pair → Pair
@@ -26,10 +30,6 @@ stands_in f log rows p =
       account = p.account;
       buffers = p.buffers;
     }
-
--- nobody is logged in any more, in the phase that it is
-abbrev pub logged_out : Pair → Pair
-logged_out s = hub_leaves s.hub.phase s
 
 -- a phase is entered: where the hub is shut or waits for a login, nobody is logged in
 abbrev pub enters : HubPhase → Pair → Pair

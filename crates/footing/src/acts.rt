@@ -43,11 +43,11 @@ impl Footing {
                 length: message.len(),
             }),
             (HubPhase::Serving { .. } | HubPhase::Filling { .. }, Packet::LogoutRequest { .. }) => {
-                self.enter(HubPhase::Shut, accounts);
+                self.leave(HubPhase::Shut, accounts);
                 Ok(Received::Acted(Letter::LogoutRequest))
             }
             (HubPhase::Filling { next, last }, Packet::SeatHeartbeat) if next > last => {
-                self.enter(HubPhase::Shut, accounts);
+                self.leave(HubPhase::Shut, accounts);
                 Ok(Received::Acted(Letter::SeatHeartbeat))
             }
             (HubPhase::Serving { .. } | HubPhase::Filling { .. }, Packet::SeatHeartbeat) => Ok(

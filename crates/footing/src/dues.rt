@@ -23,7 +23,10 @@ pub enum Due {
     /// Nothing, and the hub is to be shut: a fill is sent.
     Shut,
     /// This message of the log.
-    Message { number: u64, then: HubPhase },
+    Message {
+        number: u64,
+        then: HubPhase,
+    },
     /// This packet.
     Packet {
         packet: Packet<'static>,

@@ -3,9 +3,10 @@
 ghost use Rattle.std.specs.Prelude.{◌≡◌};
 ghost use Rattle.message_log.specs.Meaning.{Meaning};
 ghost use Rattle.rules.specs.State.{Pair};
+ghost use Rattle.rules.specs.Changes.{unmarked};
 ghost use Rattle.rules.specs.Calls.{busy, is_serving};
 ghost use Rattle.rules.specs.Hub.{hub_letters, is_shut, listens};
-ghost use Rattle.footing.specs.Footings.{shut, stands_in, logged_out, enters};
+ghost use Rattle.footing.specs.Footings.{shut, left_in, stands_in, enters};
 
 use account::Accounts;
 use layout::Letter;
@@ -88,20 +89,25 @@ impl Footing {
     pub fn enter(&mut self, phase: HubPhase, accounts: &mut Accounts)
         ensures { (log : Meaning) (p : Pair) → stands_in self.new log accounts.new.rows p ≡ enters phase (stands_in self.old log accounts.old.rows p) }
     {
-        if matches!(phase, HubPhase::Shut | HubPhase::Waiting) {
-            self.log_out(accounts);
+        match phase {
+            HubPhase::Shut | HubPhase::Waiting => self.leave(phase, accounts),
+            HubPhase::Answering { .. }
+            | HubPhase::Rejecting { .. }
+            | HubPhase::Serving { .. }
+            | HubPhase::Filling { .. } => self.phase = phase,
         }
-        self.phase = phase;
     }
 
-    // Nobody is logged in any more.
-    fn log_out(&mut self, accounts: &mut Accounts)
-        ensures { (log : Meaning) (p : Pair) → stands_in self.new log accounts.new.rows p ≡ logged_out (stands_in self.old log accounts.old.rows p) }
+    // Enters a phase in which nobody is logged in any more.
+    pub(crate) fn leave(&mut self, phase: HubPhase, accounts: &mut Accounts)
+        ensures after { self.new ≡ left_in phase }
+        ensures rows { accounts.new.rows ≡ unmarked accounts.old.rows self.old.row }
     {
         if let Some(row) = self.row {
             accounts.unmark(row);
         }
         self.row = None;
+        self.phase = phase;
     }
 }
 
