@@ -85,7 +85,7 @@ impl Footing {
         }
     }
 
-    /// Enters a phase. Where it is shut or waits for a login nobody is logged in, so the mark of a row goes.
+    /// Enters a phase. Where it is shut or waits for a login nobody is logged in.
     pub fn enter(&mut self, phase: HubPhase, accounts: &mut Accounts)
         ensures { (log : Meaning) (p : Pair) → stands_in self.new log accounts.new.rows p ≡ enters phase (stands_in self.old log accounts.old.rows p) }
     {
@@ -98,8 +98,8 @@ impl Footing {
         }
     }
 
-    // Enters a phase in which nobody is logged in any more.
-    pub(crate) fn leave(&mut self, phase: HubPhase, accounts: &mut Accounts)
+    /// Nobody is logged in any more, in this phase: the mark of a row goes.
+    pub fn leave(&mut self, phase: HubPhase, accounts: &mut Accounts)
         ensures after { self.new ≡ left_in phase }
         ensures rows { accounts.new.rows ≡ unmarked accounts.old.rows self.old.row }
     {

@@ -1,16 +1,12 @@
 -- A packet that stands at the front of the outgoing buffer, put on a line from there.
-use Rattle.std.proofs.Common.{◌≡◌, ℕ, ◌+◌, ◌-◌, ◌<◌, ◌≤◌, true, false, ltb, List, ◌++◌, length, take, drop, Ok, Err, Result, sym, refl, ap, ◌∙◌, subst, arith}
+use Rattle.std.proofs.Common.{◌≡◌, ℕ, ◌-◌, ◌<◌, ◌≤◌, true, false, List, ◌++◌, length, take, drop, Ok, Err, Result, sym, refl, ap, ◌∙◌, subst, arith}
 use Rattle.std.proofs.lemmas.List.{take_at}
 use Rattle.std.proofs.lemmas.Bool.{le-leb, lt-leb, cond-true, cond-false}
-use Rattle.fault.specs.declared.faults.PacketFault.{PacketFault}
 use Rattle.fault.specs.declared.refusals.Refusal.{Refusal}
 use Rattle.fault.specs.declared.refusals.Refusal.TheVariants.{LineFull}
-use Rattle.layout.specs.Letters.{allowed}
-use Rattle.layout.specs.Limits.{length_limit}
 use Rattle.layout.proofs.Coded.{cut}
-use Rattle.packet.specs.Values.{Value, encode, letter, length_number}
-use Rattle.packet.specs.Writing.{Written, writing, writable, granting, widths}
-use Rattle.packet.proofs.Back.{length_encode}
+use Rattle.packet.specs.Values.{Value, encode}
+use Rattle.packet.specs.Writing.{Written, writing}
 use Rattle.line.specs.Lines.{LineView, Put, joined, fits}
 use Rattle.message_log.specs.Calls.{settled, fronted}
 use Rattle.framing.specs.Posting.{Posted, posting, roomy, went}

@@ -1,5 +1,5 @@
 -- What a call of an end comes to, in the words of the rules.
-use Rattle.std.specs.Prelude.{ℕ, ◌<◌, cond, List, length, Ok, Err, Result}
+use Rattle.std.specs.Prelude.{◌<◌, cond, length, Ok, Err, Result}
 use Rattle.fault.specs.declared.refusals.Refusal.{Refusal}
 use Rattle.fault.specs.declared.refusals.Refusal.TheVariants.{ShortBuffer}
 use Rattle.line.specs.Lines.{LineView}

@@ -4,13 +4,13 @@ use Rattle.std.proofs.lemmas.Bool.{cond-true, cond-false, le-ltb}
 use Rattle.layout.specs.Limits.{message_limit}
 use Rattle.layout.specs.declared.goodbyes.GoodByeReason.{GoodByeReason}
 use Rattle.layout.specs.declared.goodbyes.GoodByeReason.TheVariants as G
-use Rattle.packet.specs.Values.{Value, encode, good_bye, unsequenced}
+use Rattle.packet.specs.Values.{encode, good_bye, unsequenced}
 use Rattle.line.specs.Lines.{fits}
 use Rattle.rules.specs.declared.phases.HubPhase.{HubPhase}
 use Rattle.rules.specs.declared.phases.HubPhase.TheVariants.{Shut, Waiting, Answering, Rejecting, Serving, Filling}
 use Rattle.rules.specs.State.{Pair}
-use Rattle.rules.specs.Changes.{hub_leaves, hub_writes}
-use Rattle.rules.specs.Calls.{done, is_serving, waiting_limit, silence_limit, counted, hub_timed}
+use Rattle.rules.specs.Changes.{with_hub, hub_leaves, hub_writes}
+use Rattle.rules.specs.Calls.{done, is_serving, waiting_limit, silence_limit, one_more, counted, hub_timed}
 use Rattle.rules.specs.Rounds.{too_short}
 use Rattle.rules.specs.Hub.{hub_gone}
 use Rattle.rules.specs.Sides.{hub_side_of}
@@ -49,6 +49,16 @@ timed_side (Rejecting status) s = refl
 timed_side (Serving asked next owed) s = side_cond (ltb silence_limit s.hub.silent) _ _ _ _ refl refl
 timed_side (Filling next last) s = refl
 
-pub times_granted : (s t : Pair) → too_short s.buffers.out ≡ false → t ≡ hub_timed s.hub.phase (hub_side_of (counted s)) → done t ≡ unless_short times s
-times_granted s t a e =
-    ap (λ (x : Pair). done x) (e ∙ sym (timed_side s.hub.phase (counted s))) ∙ sym (cond-false _ _ _ a)
+-- the hub with these counts
+abbrev pub counting : ℕ → ℕ → ℕ → Pair → Pair
+counting unsent silent waited s =
+    with_hub s (record { phase = s.hub.phase; row = s.hub.row; frame = s.hub.frame; unsent = unsent; silent = silent; waited = waited })
+
+pub times_granted : (s t : Pair) (unsent silent waited : ℕ) → too_short s.buffers.out ≡ false → unsent ≡ one_more s.hub.unsent → silent ≡ one_more s.hub.silent → waited ≡ one_more s.hub.waited →
+    t ≡ hub_timed s.hub.phase (hub_side_of (counting unsent silent waited s)) → done t ≡ unless_short times s
+times_granted s t unsent silent waited a u i w e =
+    let timed : ℕ → ℕ → ℕ → Pair = λ x y z. hub_timed s.hub.phase (hub_side_of (counting x y z s)) in
+    let n : ℕ = one_more s.hub.unsent in
+    ap (λ (x : Pair). done x)
+    (e ∙ ap (λ (x : ℕ). timed x silent waited) u ∙ ap (λ (x : ℕ). timed n x waited) i ∙ ap (timed n (one_more s.hub.silent)) w ∙ sym (timed_side s.hub.phase (counted s)))
+    ∙ sym (cond-false _ _ _ a)

@@ -1,5 +1,5 @@
 -- What a send comes to where this is due.
-use Rattle.std.proofs.Common.{◌≡◌, ℕ, false, true, List, Some, None, Ok, Err, Option, Result, sym, refl, ap, ◌∙◌}
+use Rattle.std.proofs.Common.{◌≡◌, false, true, Some, None, sym, refl, ap, ◌∙◌}
 use Rattle.std.proofs.lemmas.Bool.{cond-true, cond-false}
 use Rattle.fault.specs.declared.refusals.Refusal.TheVariants.{LineFull}
 use Rattle.packet.specs.Values.{Value, encode, letter}

@@ -8,15 +8,14 @@ use Rattle.rules.specs.Changes.{refuses, hub_leaves, wiped}
 use Rattle.rules.specs.Calls.{Done, done, tell, hub_timed, counted}
 use Rattle.rules.specs.Rounds.{Tell, lent_short}
 use Rattle.rules.specs.Sides.{hub_side_of}
-use Rattle.footing.specs.Footings.{enters}
+
+-- nobody is logged in any more, in this phase, and lines, frame and counts are cleared
+abbrev pub clears : HubPhase → Pair → Pair
+clears phase s = hub_side_of (hub_leaves phase (wiped s))
 
 -- what a connect does before the seat has asked, on the hub's side
 abbrev pub awaits : Pair → Pair
-awaits s = hub_side_of (hub_leaves Waiting (wiped s))
-
--- the lines, frame and counts are cleared, in this phase
-abbrev pub clears : HubPhase → Pair → Pair
-clears phase s = hub_side_of (enters phase (wiped s))
+awaits s = clears Waiting s
 
 -- a message that is too long is told before a short buffer
 abbrev pub tells : List ℕ → Pair → Done

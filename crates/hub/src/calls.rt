@@ -40,11 +40,11 @@ impl Hub {
         self.reset(HubPhase::Shut, accounts);
     }
 
-    // Enters a phase with frame and counts cleared.
+    // Nobody is logged in any more, in this phase, and frame and counts are cleared.
     fn reset(&mut self, phase: HubPhase, accounts: &mut Accounts)
         ensures { (log : Meaning) (up down : LineView) (frame out : List ℕ) → side_of self.new log (cleared up) (cleared down) accounts.new.rows frame out ≡ clears phase (side_of self.old log up down accounts.old.rows frame out) }
     {
-        self.footing.enter(phase, accounts);
+        self.footing.leave(phase, accounts);
         self.filled = 0;
         self.unsent = 0;
         self.silent = 0;
@@ -107,7 +107,7 @@ impl Hub {
                 self.dismiss(GoodByeReason::LoginTimeout, accounts, down, out);
             }
             HubPhase::Serving { .. } if self.silent > SILENCE_LIMIT => {
-                self.footing.enter(HubPhase::Shut, accounts);
+                self.footing.leave(HubPhase::Shut, accounts);
             }
             _ => {}
         }

@@ -47,7 +47,7 @@ impl Hub {
         match self.footing.due(self.unsent, self.finished, log) {
             Due::Nothing => Ok(None),
             Due::Shut => {
-                self.footing.enter(HubPhase::Shut, accounts);
+                self.footing.leave(HubPhase::Shut, accounts);
                 Ok(None)
             }
             Due::Message { number, then } => {
@@ -110,7 +110,7 @@ impl Hub {
         ensures { (log : Meaning) (up : LineView) (frame : List ℕ) → side_of self.new log up (D.Line.view down.new) accounts.new.rows frame out.new ≡ hub_gone reason (side_of self.old log up (D.Line.view down.old) accounts.old.rows frame out.old) }
     {
         let _ = self.write(good_bye(reason), down, out);
-        self.footing.enter(HubPhase::Shut, accounts);
+        self.footing.leave(HubPhase::Shut, accounts);
     }
 }
 
