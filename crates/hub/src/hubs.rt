@@ -1,9 +1,11 @@
 //! The hub's end of a connection.
 //! What it holds from call to call; log, table, lines and buffers are lent.
 ghost use Rattle.std.specs.Prelude.{◌≡◌, ℕ, List};
+ghost use Rattle.account.specs.declared.rows.Row.{Row};
+ghost use Rattle.line.specs.Lines.{LineView};
 ghost use Rattle.message_log.specs.Meaning.{Meaning};
-ghost use Rattle.rules.specs.Sides.{no_hub};
-ghost use Rattle.hub.specs.Ends.{begins, end_of, running_of};
+ghost use Rattle.rules.specs.Sides.{hub_side, no_hub};
+ghost use Rattle.hub.specs.Ends.{begins, end_of, running_of, side_of};
 
 use footing::Footing;
 use rules::HubPhase;
@@ -26,8 +28,7 @@ pub struct Hub {
 impl Hub {
     /// A hub with no connection, whose session is not finished.
     pub fn new() -> Hub
-        ensures end { (frame : List ℕ) → end_of result frame ≡ no_hub }
-        ensures running { (log : Meaning) → running_of result log ≡ begins log }
+        ensures { (log : Meaning) (up down : LineView) (rows : List Row) (frame out : List ℕ) → side_of result log up down rows frame out ≡ hub_side (begins log) no_hub up down rows frame out }
     {
         Hub {
             footing: Footing::new(),
