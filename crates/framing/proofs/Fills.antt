@@ -1,7 +1,7 @@
 -- What a fill brought: the frame then, and that fewer bytes wait.
-use Rattle.std.proofs.Common.{◌≡◌, ℕ, ◌+◌, ◌-◌, ◌<◌, ◌≤◌, min, Bool, true, false, ◌&&◌, leb, List, [], ◌∷◌, ◌++◌, length, take, drop, Ok, Err, Result, sym, refl, ap, ◌∙◌, subst, ⊎_elim, append_assoc, arith, length-append, length-drop, length-take}
+use Rattle.std.proofs.Common.{◌≡◌, ℕ, ◌+◌, ◌-◌, ◌<◌, ◌≤◌, min, List, [], ◌∷◌, ◌++◌, length, take, drop, Ok, Err, Result, sym, refl, ap, ◌∙◌, subst, ⊎_elim, append_assoc, arith, length-append, length-drop, length-take}
 use Rattle.std.proofs.lemmas.List.{take_at, take-append-drop}
-use Rattle.std.proofs.lemmas.Bool.{cond-true, cond-false, cases_lt, le-ltb, le-leb, lt-leb, and_from}
+use Rattle.std.proofs.lemmas.Bool.{cond-true, cond-false, cases_lt, le-ltb, le-leb, lt-leb, and_from, and_right}
 use Rattle.layout.specs.Limits.{packet_limit}
 use Rattle.line.specs.Lines.{LineView, handed}
 use Rattle.memory.specs.Memory.{laid}
@@ -20,14 +20,10 @@ wanted_lack : (n : ℕ) (buf : List ℕ) → packet_limit ≤ length buf → wan
 wanted_lack n buf h =
     ⊎_elim
     (λ (l : packet_limit < n).
-    cond-false _ _ _ (ap (λ (b : Bool). leb packet_limit (length buf) && b) (lt-leb n packet_limit l) ∙ and_none (leb packet_limit (length buf)))
+    cond-false _ _ _ (and_right _ _ (lt-leb n packet_limit l))
     ∙ sym (long_lacks (take n buf) (simp length-take (omega arith))))
     (λ (l : n ≤ packet_limit). cond-true _ _ _ (and_from _ _ (le-leb packet_limit (length buf) h) (le-leb n packet_limit l)))
     (cases_lt packet_limit n)
-  where
-    and_none : (b : Bool) → (b && false) ≡ false
-    and_none true = refl
-    and_none false = refl
 
 -- what came stands behind what was held
 frame_more : (n : ℕ) (buf g : List ℕ) → n ≤ length buf → take (n + length g) (laid buf n g) ≡ take n buf ++ g

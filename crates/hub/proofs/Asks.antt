@@ -1,6 +1,6 @@
 -- What the calls that are neither a receive nor a send come to.
-use Rattle.std.proofs.Common.{◌≡◌, ℕ, ◌≤◌, Bool, true, false, cond, ◌&&◌, ltb, leb, List, [], length, sym, refl, ap, ◌∙◌}
-use Rattle.std.proofs.lemmas.Bool.{cond-true, cond-false, le-ltb}
+use Rattle.std.proofs.Common.{◌≡◌, ℕ, ◌≤◌, Bool, true, false, cond, ltb, List, [], length, sym, refl, ap, ◌∙◌}
+use Rattle.std.proofs.lemmas.Bool.{and_right, cond-true, cond-false, le-ltb}
 use Rattle.layout.specs.Limits.{message_limit}
 use Rattle.layout.specs.declared.goodbyes.GoodByeReason.{GoodByeReason}
 use Rattle.layout.specs.declared.goodbyes.GoodByeReason.TheVariants as G
@@ -17,14 +17,10 @@ use Rattle.rules.specs.Sides.{hub_side_of}
 use Rattle.framing.specs.Calling.{unless_short}
 use Rattle.hub.specs.Asks.{tells, times}
 
-and_none : (b : Bool) → (b && false) ≡ false
-and_none true = refl
-and_none false = refl
-
 pub tells_granted : (m : List ℕ) (s : Pair) → length m ≤ message_limit → too_short s.buffers.out ≡ false → fits s.down (encode (unsequenced m)) ≡ true → is_serving s.hub.phase ≡ true →
     done (hub_writes (unsequenced m) s) ≡ tells m s
 tells_granted m s h a f p =
-    sym (cond-false _ _ _ (ap (λ (b : Bool). leb (length m) message_limit && b) a ∙ and_none (leb (length m) message_limit))
+    sym (cond-false _ _ _ (and_right _ _ a)
     ∙ cond-false _ _ _ (le-ltb message_limit (length m) h)
     ∙ cond-true _ _ _ f
     ∙ cond-true _ _ _ p)

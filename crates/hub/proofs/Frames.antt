@@ -71,10 +71,9 @@ hears_judged hub log v w down rows buf buf' out k a h f z j =
     let fr : List ℕ = take n buf in
     let g : List ℕ = given v (lack fr) in
     let s : Pair = side_of hub log v down rows buf out in
+    let says : List ℕ → Result Answer PacketFault = judged (hub_letters hub.footing.phase) in
     let q = came v w buf buf' n k h f z in
-    let j' : a ≡ judged (hub_letters hub.footing.phase) (fr ++ g) =
-    j ∙ ap (λ (i : ℕ). judged (hub_letters hub.footing.phase) (take i buf')) (omega arith) ∙ ap (judged (hub_letters hub.footing.phase)) q.frame in
     tells_judges a g (fr ++ g) w s _ _ (took hub log v w down rows buf buf' out g [] 0 q.buffer refl) (took hub log v w down rows buf buf' out g (fr ++ g) (n + k) q.buffer q.frame)
-    ∙ ap (λ (x : Result Answer PacketFault). hub_judges x g (fr ++ g) w s) j'
+    ∙ ap (λ (x : Result Answer PacketFault). hub_judges x g (fr ++ g) w s) (j ∙ ap (λ (i : ℕ). says (take i buf')) (omega arith) ∙ ap says q.frame)
     ∙ sym (hears_some g w s q.some)
     ∙ ap (λ (x : LineView). hub_hears g x s) q.line

@@ -1,6 +1,6 @@
 -- What the calls that are neither a receive nor a send come to.
-use Rattle.std.proofs.Common.{◌≡◌, ℕ, ◌^◌, ◌<◌, ◌≤◌, Bool, true, false, cond, ◌&&◌, eqb, leb, List, [], length, Ok, Err, sym, refl, ap, ◌∙◌, arith, length-append}
-use Rattle.std.proofs.lemmas.Bool.{cond-true, cond-false, le-ltb, le-leb}
+use Rattle.std.proofs.Common.{◌≡◌, ℕ, ◌≤◌, Bool, true, false, cond, eqb, leb, List, [], length, Ok, Err, sym, refl, ap, ◌∙◌, arith, length-append}
+use Rattle.std.proofs.lemmas.Bool.{and_right, cond-true, cond-false, le-ltb, le-leb}
 use Rattle.fault.specs.declared.refusals.Refusal.{Refusal}
 use Rattle.fault.specs.declared.refusals.Refusal.TheVariants.{NoSession, NothingToFetch}
 use Rattle.layout.specs.Limits.{message_limit}
@@ -8,7 +8,6 @@ use Rattle.layout.specs.declared.logouts.LogoutReason.TheVariants as X
 use Rattle.packet.specs.Values.{Value, encode, length_number, login_request, logout_request, unsequenced}
 use Rattle.packet.proofs.Back.{length_encode}
 use Rattle.line.specs.Lines.{LineView, Sound, cleared, fits}
-use Rattle.message_log.specs.Meaning as Log
 use Rattle.message_log.specs.Meaning.{Meaning, count}
 use Rattle.account.specs.Logins.{spoken_version}
 use Rattle.rules.specs.declared.phases.How.{How}
@@ -16,22 +15,19 @@ use Rattle.rules.specs.declared.phases.How.TheVariants.{Join, Anew, Fetch}
 use Rattle.rules.specs.declared.phases.SeatPhase.TheVariants.{Apart, Live}
 use Rattle.rules.specs.State.{Account, Pair}
 use Rattle.rules.specs.Changes.{refuses, with_seat, seat_to, seat_tells, seat_writes}
-use Rattle.rules.specs.Calls.{Done, done, connect, connected, asking, asked_session, asked_number, is_live, leave}
+use Rattle.rules.specs.Calls.{Done, done, connect, connected, asking, is_live, leave}
 use Rattle.rules.specs.Rounds.{too_short}
 use Rattle.rules.specs.Seat.{is_apart, seat_gone}
 use Rattle.rules.specs.Sides.{seat_side_of}
 use Rattle.seat.specs.declared.seats.Seat.{Seat}
 use Rattle.seat.specs.Asks.{asks, says}
-use Rattle.seat.specs.Ends.{side_of, answered, unless_short}
-
-and_none : (b : Bool) → (b && false) ≡ false
-and_none true = refl
-and_none false = refl
+use Rattle.framing.specs.Calling.{answered, unless_short}
+use Rattle.seat.specs.Ends.{side_of}
 
 pub says_granted : (m : List ℕ) (s : Pair) → length m ≤ message_limit → too_short s.buffers.out ≡ false → fits s.up (encode (unsequenced m)) ≡ true → s.seat.phase ≡ Live →
     done (seat_writes (unsequenced m) s) ≡ says m s
 says_granted m s h a f p =
-    sym (cond-false _ _ _ (ap (λ (b : Bool). leb (length m) message_limit && b) a ∙ and_none (leb (length m) message_limit))
+    sym (cond-false _ _ _ (and_right _ _ a)
     ∙ cond-false _ _ _ (le-ltb message_limit (length m) h)
     ∙ cond-true _ _ _ f
     ∙ cond-true _ _ _ (ap is_live p))

@@ -1,15 +1,10 @@
 -- A packet that was posted where the room alone decides, and what a send comes to by it.
-use Rattle.std.proofs.Common.{◌≡◌, ℕ, ◌≤◌, Bool, true, false, cond, List, length, Some, None, Ok, Err, Option, Result, sym, refl, ap, ◌∙◌}
+use Rattle.std.proofs.Common.{◌≡◌, Bool, true, false, cond, Some, None, Option, sym, refl, ap, ◌∙◌}
 use Rattle.std.proofs.lemmas.Bool.{cond-true, cond-false}
-use Rattle.fault.specs.declared.refusals.Refusal.{Refusal}
 use Rattle.fault.specs.declared.refusals.Refusal.TheVariants.{LineFull}
-use Rattle.layout.specs.Limits.{packet_limit}
-use Rattle.layout.proofs.Coded.{cut}
-use Rattle.packet.specs.Values.{Value, Valid, encode, letter}
-use Rattle.line.specs.Lines.{LineView, joined, fits}
+use Rattle.packet.specs.Values.{Value, encode, letter}
+use Rattle.line.specs.Lines.{fits}
 use Rattle.message_log.specs.Meaning.{Meaning}
-use Rattle.message_log.specs.Calls.{settled, fronted}
-use Rattle.framing.specs.Posting.{Posted, posting, roomy}
 use Rattle.rules.specs.State.{Pair}
 use Rattle.rules.specs.Changes.{grants, refuses, with_seat, seat_writes}
 use Rattle.rules.specs.Hub as Hub
@@ -18,16 +13,7 @@ use Rattle.rules.specs.Seat.{is_apart, seat_due, seat_posts, seat_sends}
 use Rattle.standing.specs.declared.dues.Due.{Due}
 use Rattle.standing.specs.declared.standings.Standing.{Standing}
 use Rattle.standing.specs.Standings.{stands_in, due_of}
-use Rattle.seat.specs.Ends.{unless_short}
-
--- the room decided for it
-pub roomy_granted : (v : Value) (up : LineView) (x : Unit {0}) → roomy v up ≡ Ok x → fits up (encode v) ≡ true
-roomy_granted v up x =
-    cut (fits up (encode v)) _ _ (Ok x) _ (λ t e. t) (λ t e. cc)
-
-pub roomy_refused : (v : Value) (up : LineView) (e : Refusal) → roomy v up ≡ Err e → (fits up (encode v) ≡ false) × (e ≡ LineFull)
-roomy_refused v up e =
-    cut (fits up (encode v)) _ _ (Err e) _ (λ t q. cc) (λ t q. (t, cc))
+use Rattle.framing.specs.Calling.{unless_short}
 
 -- with the seat's fetch requested, or not
 abbrev pub requested_in : Bool → Pair → Pair

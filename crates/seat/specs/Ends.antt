@@ -1,13 +1,9 @@
 -- What a seat means, and its side of a pair.
-use Rattle.std.specs.Prelude.{ℕ, cond, List, take, Result}
-use Rattle.fault.specs.declared.refusals.Refusal.{Refusal}
-use Rattle.fault.specs.declared.refusals.Refusal.TheVariants.{ShortBuffer}
+use Rattle.std.specs.Prelude.{ℕ, List, take}
 use Rattle.line.specs.Lines.{LineView}
 use Rattle.message_log.specs.Meaning.{Meaning}
-use Rattle.rules.specs.State.{SeatEnd, Account, Pair, Outcome}
+use Rattle.rules.specs.State.{SeatEnd, Account, Pair}
 use Rattle.rules.specs.Sides.{seat_side}
-use Rattle.rules.specs.Changes.{refuses}
-use Rattle.rules.specs.Rounds.{too_short}
 use Rattle.seat.specs.declared.seats.Seat.{Seat}
 
 -- the meaning of a seat whose frame lies at the front of this buffer
@@ -18,11 +14,3 @@ end_of s buffer =
 -- its side of a pair: its log, the up and the down line, its account, the buffer of its frame, and the outgoing one
 abbrev pub side_of : Seat → Meaning → LineView → LineView → Account → List ℕ → List ℕ → Pair
 side_of s log up down account frame out = seat_side (end_of s frame) log up down account frame out
-
--- what a call answered, and its side then
-abbrev pub answered : {R : Type 0} → Result R Refusal → Pair → Outcome R
-answered answer s = record { answer = answer; after = s }
-
--- a short outgoing buffer is told before the rule
-abbrev pub unless_short : {R : Type 0} → (Pair → Outcome R) → Pair → Outcome R
-unless_short rule s = cond (too_short s.buffers.out) (refuses ShortBuffer s) (rule s)

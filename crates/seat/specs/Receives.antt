@@ -1,16 +1,14 @@
 -- What a receive does to the seat's side of a pair.
-use Rattle.std.specs.Prelude.{◌≡◌, ℕ, ◌<◌, false, cond, length, Ok, Err, Result}
+use Rattle.std.specs.Prelude.{◌≡◌, ℕ, false, cond, Result}
 use Rattle.fault.specs.declared.refusals.Refusal.{Refusal}
 use Rattle.fault.specs.declared.refusals.Refusal.TheVariants.{ShortBuffer, WrongPhase}
-use Rattle.line.specs.Lines.{LineView}
 use Rattle.rules.specs.declared.answers.Received.{Received}
-use Rattle.rules.specs.declared.answers.Received.TheVariants as A
 use Rattle.rules.specs.State.{Pair, Outcome}
 use Rattle.rules.specs.Changes.{refuses}
 use Rattle.rules.specs.Frames.{lack, given, left, Free}
 use Rattle.rules.specs.Rounds.{SeatReceive, lent_short}
 use Rattle.rules.specs.Seat.{is_apart, seat_hears}
-use Rattle.seat.specs.Ends.{answered}
+use Rattle.framing.specs.Calling.{answered, Fewer}
 
 -- the seat takes once, at most what its frame lacks, and the down line is left so much room
 abbrev pub hears : Pair → ℕ → Outcome Received
@@ -18,14 +16,6 @@ hears s room = seat_hears (given s.down (lack s.seat.frame)) (left s.down (lack 
 
 abbrev pub receives : Pair → ℕ → Outcome Received
 receives s room = cond (lent_short SeatReceive s) (refuses ShortBuffer s) (cond (is_apart s.seat.phase) (refuses WrongPhase s) (hears s room))
-
--- a receive that is to be followed by another left fewer bytes waiting
-abbrev pub Fewer : {E : Type 0} → Result Received E → LineView → LineView → Type 0
-Fewer (Ok A.Nothing) line after = Unit {0}
-Fewer (Ok A.Part) line after = length after.waiting < length line.waiting
-Fewer (Ok (A.Acted letter)) line after = length after.waiting < length line.waiting
-Fewer (Ok (A.Message place long)) line after = length after.waiting < length line.waiting
-Fewer (Err refusal) line after = Unit {0}
 
 -- The answer and all of the side are the rule's, at the room that the down line then has: that room is free.
 pub record Receives (s : Pair) (r : Result Received Refusal) (t : Pair) : Type 0 where

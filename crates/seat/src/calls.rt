@@ -1,32 +1,26 @@
 //! The calls of a seat that neither take from a line nor send what is due.
 //! Those that may be refused judge everything before they change anything.
 ghost use Rattle.std.specs.Prelude.{◌≡◌, ℕ, List};
-ghost use Rattle.line.specs.Lines.{LineView, cleared, fits};
+ghost use Rattle.line.specs.Lines.{LineView, cleared};
 ghost use Rattle.message_log.specs.Meaning.{Meaning};
-ghost use Rattle.packet.specs.Meanings.{value_of};
-ghost use Rattle.packet.specs.Values.{encode};
 ghost use Rattle.rules.specs.State.{Account as Fields};
-ghost use Rattle.rules.specs.Calls.{cut, leave, counted, one_more, seat_timed};
+ghost use Rattle.rules.specs.Calls.{cut, leave, counted, seat_timed};
 ghost use Rattle.rules.specs.Sides.{seat_side_of};
-ghost use Rattle.seat.specs.Ends.{side_of, answered, unless_short};
+ghost use Rattle.framing.specs.Calling.{answered, unless_short};
+ghost use Rattle.seat.specs.Ends.{side_of};
 ghost use Rattle.seat.specs.Asks.{fields_of, asks, says};
 
 use crate::seats::Seat;
 use crate::sending::logout;
 use account::{Account, SPOKEN_VERSION};
 use fault::Refusal;
+use framing::{SILENCE_LIMIT, has_room, one_more};
 use layout::{LogoutReason, MESSAGE_LIMIT, PACKET_LIMIT};
 use line::Line;
 use message_log::Log;
 use packet::{Login, Packet};
 use rules::{How, SeatPhase};
 use standing::{Standing, may_connect};
-
-// A silence that is longer than so many ticks ends the connection.
-const SILENCE_LIMIT: u16 = 30;
-
-// Counts of ticks stop here.
-const COUNT_LIMIT: u16 = 1000;
 
 impl Seat {
     /// Connects, once the down line is cleared: it clears the up line, is new but for its log, and writes its login
@@ -128,18 +122,4 @@ impl Seat {
             self.standing.part();
         }
     }
-}
-
-// Whether the line has the room for a packet.
-fn has_room<U: Line>(packet: Packet<'_>, up: &U) -> bool
-    ensures { result ≡ fits (U.Line.view up.now) (encode (value_of packet.entry)) }
-{
-    packet.size() <= up.room() as u128
-}
-
-// One more tick.
-fn one_more(count: u16) -> u16
-    ensures { result ≡ one_more count }
-{
-    count.saturating_add(1).min(COUNT_LIMIT)
 }

@@ -5,9 +5,10 @@ ghost use Rattle.layout.specs.Limits.{packet_limit};
 ghost use Rattle.line.specs.Lines.{LineView};
 ghost use Rattle.rules.specs.State.{Account};
 ghost use Rattle.rules.specs.Frames.{lack, Free};
+ghost use Rattle.framing.specs.Calling.{Fewer};
 ghost use Rattle.seat.specs.Ends.{side_of};
 ghost use Rattle.standing.specs.Acts.{closing};
-ghost use Rattle.seat.specs.Receives.{Receives, Fewer, hears};
+ghost use Rattle.seat.specs.Receives.{Receives, hears};
 
 use crate::seats::Seat;
 use fault::{Fault, LogFault, Refusal};

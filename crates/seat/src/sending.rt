@@ -7,10 +7,11 @@ ghost use Rattle.message_log.specs.Meaning.{Meaning};
 ghost use Rattle.packet.specs.Meanings.{value_of};
 ghost use Rattle.packet.specs.Values.{Valid, logout_request};
 ghost use Rattle.framing.specs.Posting.{roomy};
+ghost use Rattle.framing.specs.Calling.{answered, unless_short};
 ghost use Rattle.rules.specs.State.{Account};
 ghost use Rattle.rules.specs.Changes.{seat_tells};
 ghost use Rattle.rules.specs.Seat.{seat_gone, seat_sends};
-ghost use Rattle.seat.specs.Ends.{side_of, answered, unless_short};
+ghost use Rattle.seat.specs.Ends.{side_of};
 
 use crate::seats::Seat;
 use fault::Refusal;

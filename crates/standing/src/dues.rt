@@ -6,6 +6,7 @@ ghost use Rattle.rules.specs.Seat.{seat_due};
 ghost use Rattle.standing.specs.Standings.{due_of, stands_in, Writable};
 
 use crate::standings::Standing;
+use framing::BEAT_AFTER;
 use message_log::Log;
 use packet::Packet;
 use rules::SeatPhase;
@@ -16,9 +17,6 @@ pub struct Due {
     pub packet: Packet<'static>,
     pub requested: bool,
 }
-
-// After so many ticks in which nothing was sent a heartbeat is due.
-const BEAT_AFTER: u16 = 10;
 
 impl Standing {
     /// What is due after so many ticks in which nothing was sent. In a fetch the request goes out once, while

@@ -8,7 +8,8 @@ use Rattle.line.specs.Lines.{LineView, cleared, fits}
 use Rattle.account.specs.Logins.{spoken_version}
 use Rattle.rules.specs.Rounds.{too_short}
 use Rattle.seat.specs.Asks.{fields_of}
-use Rattle.seat.specs.Ends.{side_of, answered}
+use Rattle.framing.specs.Calling.{answered}
+use Rattle.seat.specs.Ends.{side_of}
 use Rattle.seat.specs.declared.seats.Seat.{Seat}
 use Rattle.seat.proofs.Asks.{emptied, asks_refused, asks_granted, login_fits}
 use Rattle.seat.proofs.seats.Seat.ask.Goals as goal

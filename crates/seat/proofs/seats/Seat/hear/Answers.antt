@@ -9,7 +9,8 @@ use Rattle.rules.specs.declared.answers.Received.{Received}
 use Rattle.rules.specs.Frames.{judged}
 use Rattle.standing.specs.Acts.{closing}
 use Rattle.seat.specs.Ends.{side_of}
-use Rattle.seat.proofs.Frames.{hears_none, hears_judged, taken, fill_free, fill_fewer, fewer_any}
+use Rattle.framing.proofs.Fills.{fill_free, fill_fewer, fewer_any}
+use Rattle.seat.proofs.Frames.{hears_none, hears_judged, taken}
 use Rattle.seat.proofs.seats.Seat.hear.Goals as goal
 
 pub returns-then-count-eq0 : goal.returns-then-count-eq0

@@ -6,7 +6,8 @@ use Rattle.packet.specs.Values.{Value, encode, logout_request}
 use Rattle.line.specs.Lines.{fits}
 use Rattle.rules.specs.State.{Pair}
 use Rattle.rules.specs.Rounds.{too_short}
-use Rattle.seat.specs.Ends.{side_of, answered}
+use Rattle.framing.specs.Calling.{answered}
+use Rattle.seat.specs.Ends.{side_of}
 use Rattle.seat.proofs.Asks.{leaves_granted}
 use Rattle.seat.proofs.seats.Seat.leave.Goals as goal
 

@@ -4,7 +4,8 @@ use Rattle.fault.specs.declared.refusals.Refusal.{Refusal}
 use Rattle.layout.specs.Limits.{packet_limit}
 use Rattle.rules.specs.State.{Pair}
 use Rattle.rules.specs.Rounds.{too_short}
-use Rattle.seat.specs.Ends.{side_of, answered}
+use Rattle.framing.specs.Calling.{answered}
+use Rattle.seat.specs.Ends.{side_of}
 use Rattle.seat.proofs.Asks.{says_granted}
 use Rattle.seat.proofs.seats.Seat.say.Goals as goal
 

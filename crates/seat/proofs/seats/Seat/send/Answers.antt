@@ -9,9 +9,11 @@ use Rattle.packet.specs.Meanings.{value_of}
 use Rattle.packet.specs.Values.{letter}
 use Rattle.rules.specs.State.{Pair}
 use Rattle.rules.specs.Rounds.{too_short}
-use Rattle.seat.specs.Ends.{side_of, answered}
+use Rattle.framing.specs.Calling.{answered}
+use Rattle.seat.specs.Ends.{side_of}
 use Rattle.standing.specs.declared.standings.Standing.{Standing}
-use Rattle.seat.proofs.Writes.{requested_in, roomy_granted, roomy_refused, sends_granted, sends_none, sends_refused}
+use Rattle.framing.proofs.Posts.{roomy_granted, roomy_refused}
+use Rattle.seat.proofs.Writes.{requested_in, sends_granted, sends_none, sends_refused}
 use Rattle.seat.proofs.seats.Seat.send.Goals as goal
 
 pub returns-in_default : goal.returns-in_default
