@@ -1,15 +1,14 @@
 -- A packet that stands at the front of the outgoing buffer, put on a line from there.
 use Rattle.std.proofs.Common.{◌≡◌, ℕ, ◌-◌, ◌<◌, ◌≤◌, true, false, List, ◌++◌, length, take, drop, Ok, Err, Result, sym, refl, ap, ◌∙◌, subst, arith}
 use Rattle.std.proofs.lemmas.List.{take_at}
-use Rattle.std.proofs.lemmas.Bool.{le-leb, lt-leb, cond-true, cond-false}
+use Rattle.std.proofs.lemmas.Bool.{le-leb, lt-leb, cond-true}
 use Rattle.fault.specs.declared.refusals.Refusal.{Refusal}
 use Rattle.fault.specs.declared.refusals.Refusal.TheVariants.{LineFull}
 use Rattle.layout.proofs.Coded.{cut}
 use Rattle.packet.specs.Values.{Value, encode}
-use Rattle.packet.specs.Writing.{Written, writing}
 use Rattle.line.specs.Lines.{LineView, Put, joined, fits}
 use Rattle.message_log.specs.Calls.{settled, fronted}
-use Rattle.framing.specs.Posting.{Posted, posting, roomy, went}
+use Rattle.framing.specs.Posting.{Posted, roomy}
 
 pub fitting : (v : Value) (d : LineView) (n : ℕ) → n ≡ length (encode v) → n ≤ d.room → fits d (encode v) ≡ true
 fitting v d n e h = le-leb (length (encode v)) d.room (omega arith)
@@ -32,24 +31,6 @@ posted v says r d d' o o' n e h s f p =
 
 pub refused : (v : Value) (says : Result (Unit {0}) Refusal) (refusal : Refusal) (d : LineView) (o : List ℕ) → says ≡ Err refusal → Posted v says d o (Err refusal) d o
 refused v says refusal d o e = record { answer = sym e; line = refl; buffer = refl }
-
--- the writer decides where there is room
-pub room_posting : (v : Value) (d : LineView) (k : ℕ) (r : Result ℕ Refusal) → fits d (encode v) ≡ true → r ≡ writing v k → posting v d k ≡ went r
-room_posting v d k r b e = cond-true _ _ _ b ∙ ap went (sym e)
-
--- what the writer refuses
-pub unwritten : (v : Value) (r : Result (Unit {0}) Refusal) (x : Refusal) (d : LineView) (o o' : List ℕ) → r ≡ Err x → fits d (encode v) ≡ true → Written v o o' (Err x) → Posted v (posting v d (length o)) d o r d o'
-unwritten v r x d o o' e b w =
-    let a : posting v d (length o) ≡ Err x = room_posting v d (length o) (Err x) b w.answer in
-    record {
-      answer = e ∙ sym a;
-      line = sym (ap (λ (y : Result (Unit {0}) Refusal). settled y (joined d (encode v)) d) e);
-      buffer = w.buffer ∙ sym (ap (λ (y : Result (Unit {0}) Refusal). settled y (fronted (encode v) o) o) e);
-    }
-
--- a packet that the line has no room for
-pub no_room : (v : Value) (d : LineView) (o : List ℕ) (n : ℕ) → n ≡ length (encode v) → d.room < n → Posted v (posting v d (length o)) d o (Err LineFull) d o
-no_room v d o n e h = refused v (posting v d (length o)) LineFull d o (cond-false _ _ _ (lacking v d n e h))
 
 -- the room decided for it
 pub roomy_granted : (v : Value) (d : LineView) (x : Unit {0}) → roomy v d ≡ Ok x → fits d (encode v) ≡ true

@@ -18,6 +18,7 @@ use message_log::Log;
 use packet::Packet;
 
 /// Whether the line has the room for a packet.
+#[tactic(auto, using(packet::proofs::Back::length_encode))]
 pub fn has_room<L: Line>(packet: Packet<'_>, line: &L) -> bool
     ensures { result ≡ fits (L.Line.view line.now) (encode (value_of packet.entry)) }
 {
@@ -29,7 +30,7 @@ pub fn has_room<L: Line>(packet: Packet<'_>, line: &L) -> bool
 pub fn post<L: Line>(packet: Packet<'_>, line: &mut L, out: &mut [u8]) -> Result<(), Refusal>
     ensures { Posted (value_of packet.entry) (posting (value_of packet.entry) (L.Line.view line.old) (length out.old)) (L.Line.view line.old) out.old result (L.Line.view line.new) out.new }
 {
-    if (line.room() as u128) < packet.size() {
+    if !has_room(packet, line) {
         return Err(Refusal::LineFull);
     }
     let length = packet.write(out)?;

@@ -1,7 +1,8 @@
 -- What the calls that are neither a receive nor a send come to.
-use Rattle.std.proofs.Common.{◌≡◌, ℕ, ◌≤◌, Bool, true, false, cond, ltb, List, [], length, sym, refl, ap, ◌∙◌}
+use Rattle.std.proofs.Common.{◌≡◌, ℕ, ◌≤◌, Bool, true, false, cond, ltb, List, [], length, Result, sym, refl, ap, ◌∙◌}
 use Rattle.std.proofs.lemmas.Bool.{and_right, cond-true, cond-false, le-ltb}
-use Rattle.layout.specs.Limits.{message_limit}
+use Rattle.fault.specs.declared.refusals.Refusal.{Refusal}
+use Rattle.layout.specs.Limits.{message_limit, packet_limit}
 use Rattle.layout.specs.declared.goodbyes.GoodByeReason.{GoodByeReason}
 use Rattle.layout.specs.declared.goodbyes.GoodByeReason.TheVariants as G
 use Rattle.packet.specs.Values.{encode, good_bye, unsequenced}
@@ -9,18 +10,21 @@ use Rattle.line.specs.Lines.{fits}
 use Rattle.rules.specs.declared.phases.HubPhase.{HubPhase}
 use Rattle.rules.specs.declared.phases.HubPhase.TheVariants.{Shut, Waiting, Answering, Rejecting, Serving, Filling}
 use Rattle.rules.specs.State.{Pair}
-use Rattle.rules.specs.Changes.{with_hub, hub_leaves, hub_writes}
+use Rattle.rules.specs.Changes.{with_hub, hub_leaves, hub_writes, hub_tells}
 use Rattle.rules.specs.Calls.{done, is_serving, waiting_limit, silence_limit, one_more, counted, hub_timed}
-use Rattle.rules.specs.Rounds.{too_short}
 use Rattle.rules.specs.Hub.{hub_gone}
 use Rattle.rules.specs.Sides.{hub_side_of}
-use Rattle.framing.specs.Calling.{unless_short}
+use Rattle.framing.specs.Posting.{roomy}
+use Rattle.framing.specs.Calling.{answered, unless_short}
 use Rattle.hub.specs.Asks.{tells, times}
 
-pub tells_granted : (m : List ℕ) (s : Pair) → length m ≤ message_limit → too_short s.buffers.out ≡ false → fits s.down (encode (unsequenced m)) ≡ true → is_serving s.hub.phase ≡ true →
-    done (hub_writes (unsequenced m) s) ≡ tells m s
-tells_granted m s h a f p =
-    sym (cond-false _ _ _ (and_right _ _ a)
+-- nothing refuses a message but the room
+pub tells_granted : (m : List ℕ) (s t : Pair) (r : Result (Unit {0}) Refusal) → length m ≤ message_limit → packet_limit ≤ length s.buffers.out → fits s.down (encode (unsequenced m)) ≡ true → is_serving s.hub.phase ≡ true →
+    r ≡ roomy (unsequenced m) s.down → t ≡ hub_tells (unsequenced m) s → answered r t ≡ tells m s
+tells_granted m s t r h a f p e w =
+    ap (λ (x : Result (Unit {0}) Refusal). answered x t) (e ∙ cond-true _ _ _ f)
+    ∙ ap (λ (x : Pair). done x) (w ∙ cond-true _ _ _ f)
+    ∙ sym (cond-false _ _ _ (and_right _ _ (le-ltb (length s.buffers.out) packet_limit a))
     ∙ cond-false _ _ _ (le-ltb message_limit (length m) h)
     ∙ cond-true _ _ _ f
     ∙ cond-true _ _ _ p)
@@ -50,11 +54,11 @@ abbrev pub counting : ℕ → ℕ → ℕ → Pair → Pair
 counting unsent silent waited s =
     with_hub s (record { phase = s.hub.phase; row = s.hub.row; frame = s.hub.frame; unsent = unsent; silent = silent; waited = waited })
 
-pub times_granted : (s t : Pair) (unsent silent waited : ℕ) → too_short s.buffers.out ≡ false → unsent ≡ one_more s.hub.unsent → silent ≡ one_more s.hub.silent → waited ≡ one_more s.hub.waited →
+pub times_granted : (s t : Pair) (unsent silent waited : ℕ) → packet_limit ≤ length s.buffers.out → unsent ≡ one_more s.hub.unsent → silent ≡ one_more s.hub.silent → waited ≡ one_more s.hub.waited →
     t ≡ hub_timed s.hub.phase (hub_side_of (counting unsent silent waited s)) → done t ≡ unless_short times s
 times_granted s t unsent silent waited a u i w e =
     let timed : ℕ → ℕ → ℕ → Pair = λ x y z. hub_timed s.hub.phase (hub_side_of (counting x y z s)) in
     let n : ℕ = one_more s.hub.unsent in
     ap (λ (x : Pair). done x)
     (e ∙ ap (λ (x : ℕ). timed x silent waited) u ∙ ap (λ (x : ℕ). timed n x waited) i ∙ ap (timed n (one_more s.hub.silent)) w ∙ sym (timed_side s.hub.phase (counted s)))
-    ∙ sym (cond-false _ _ _ a)
+    ∙ sym (cond-false _ _ _ (le-ltb (length s.buffers.out) packet_limit a))

@@ -1,7 +1,6 @@
 -- What the calls of the hub on its connection that are neither a receive nor a send do to its side of a pair.
 use Rattle.std.specs.Prelude.{ℕ, cond, List}
 use Rattle.fault.specs.declared.refusals.Refusal.TheVariants.{ShortBuffer}
-use Rattle.rules.specs.declared.phases.HubPhase.{HubPhase}
 use Rattle.rules.specs.declared.phases.HubPhase.TheVariants.{Waiting}
 use Rattle.rules.specs.State.{Pair}
 use Rattle.rules.specs.Changes.{refuses, hub_leaves, wiped}
@@ -9,13 +8,9 @@ use Rattle.rules.specs.Calls.{Done, done, tell, hub_timed, counted}
 use Rattle.rules.specs.Rounds.{Tell, lent_short}
 use Rattle.rules.specs.Sides.{hub_side_of}
 
--- nobody is logged in any more, in this phase, and lines, frame and counts are cleared
-abbrev pub clears : HubPhase → Pair → Pair
-clears phase s = hub_side_of (hub_leaves phase (wiped s))
-
 -- what a connect does before the seat has asked, on the hub's side
 abbrev pub awaits : Pair → Pair
-awaits s = clears Waiting s
+awaits s = hub_side_of (hub_leaves Waiting (wiped s))
 
 -- a message that is too long is told before a short buffer
 abbrev pub tells : List ℕ → Pair → Done

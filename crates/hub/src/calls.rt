@@ -6,10 +6,11 @@ ghost use Rattle.layout.specs.Limits.{packet_limit};
 ghost use Rattle.line.specs.Lines.{LineView, cleared};
 ghost use Rattle.message_log.specs.Meaning.{Meaning};
 ghost use Rattle.framing.specs.Calling.{answered, unless_short};
+ghost use Rattle.rules.specs.Changes.{unmarked};
 ghost use Rattle.rules.specs.Calls.{cut, hub_timed};
 ghost use Rattle.rules.specs.Sides.{hub_side_of};
-ghost use Rattle.hub.specs.Ends.{side_of};
-ghost use Rattle.hub.specs.Asks.{awaits, clears, tells, times};
+ghost use Rattle.hub.specs.Ends.{cleared_in, side_of};
+ghost use Rattle.hub.specs.Asks.{awaits, tells, times};
 
 use crate::hubs::Hub;
 use account::Accounts;
@@ -42,7 +43,8 @@ impl Hub {
 
     // Nobody is logged in any more, in this phase, and frame and counts are cleared.
     fn reset(&mut self, phase: HubPhase, accounts: &mut Accounts)
-        ensures { (log : Meaning) (up down : LineView) (frame out : List ℕ) → side_of self.new log (cleared up) (cleared down) accounts.new.rows frame out ≡ clears phase (side_of self.old log up down accounts.old.rows frame out) }
+        ensures after { self.new ≡ cleared_in phase self.old }
+        ensures rows { accounts.new.rows ≡ unmarked accounts.old.rows self.old.footing.row }
     {
         self.footing.leave(phase, accounts);
         self.filled = 0;
@@ -79,6 +81,7 @@ impl Hub {
 
     /// A tick passes: the counts go up. A hub that serves ends a connection that was silent for too long, and one that
     /// waited too long for a login says goodbye. Refuses by `ShortBuffer`, with nothing changed.
+    #[tactic(auto, using(crate::proofs::Asks::times_granted))]
     pub fn tick<D: Line>(
         &mut self,
         accounts: &mut Accounts,
