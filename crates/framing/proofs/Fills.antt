@@ -57,6 +57,9 @@ fewer_any (Ok (Acted letter)) v w h = h
 fewer_any (Ok (Message place long)) v w h = h
 fewer_any (Err e) v w h = tt
 
+pub fewer_after : {E : Type 0} (r : Result Received E) (v w : LineView) (buf buf' : List ℕ) (n m k : ℕ) → (k ≡ 0 → ⊥) → Filled v buf n m k w buf' → Fewer r v w
+fewer_after r v w buf buf' n m k z f = fewer_any r v w (fill_fewer v w buf buf' n m k z f)
+
 -- No byte came.
 pub record CameNone (v w : LineView) (buf buf' : List ℕ) (n : ℕ) : Type 0 where
   pub none : given v (lack (take n buf)) ≡ []

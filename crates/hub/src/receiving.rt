@@ -53,6 +53,7 @@ impl Hub {
     }
 
     // Takes once, and acts on a packet that is whole. After a fault the frame is empty.
+    #[tactic(auto, using(framing::proofs::Fills::fill_free, framing::proofs::Fills::fewer_after, crate::proofs::Frames::hears_none))]
     fn hear<G: Log, U: SteadyLine>(
         &mut self,
         log: &G,
