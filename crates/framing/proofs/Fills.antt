@@ -38,10 +38,12 @@ lacked v w buf buf' n k h f = subst (λ (i : ℕ). Filled v buf n i k w buf') (w
 given_length : (v : LineView) (n : ℕ) → length (given v n) ≡ handed v n
 given_length v n = length-take (handed v n) v.waiting ∙ (omega arith)
 
+-- the room that it leaves is within the limits of the rules
 pub fill_free : (v w : LineView) (buf buf' : List ℕ) (n k : ℕ) → packet_limit ≤ length buf → Filled v buf n (wanted n buf) k w buf' → Free v (lack (take n buf)) w.room
 fill_free v w buf buf' n k h f = (lacked v w buf buf' n k h f).free
 
-pub fill_fewer : (v w : LineView) (buf buf' : List ℕ) (n m k : ℕ) → (k ≡ 0 → ⊥) → Filled v buf n m k w buf' → length w.waiting < length v.waiting
+-- where bytes came, fewer wait
+fill_fewer : (v w : LineView) (buf buf' : List ℕ) (n m k : ℕ) → (k ≡ 0 → ⊥) → Filled v buf n m k w buf' → length w.waiting < length v.waiting
 fill_fewer v w buf buf' n m k z f =
     let a : length w.waiting ≡ length v.waiting - handed v m = ap (λ (x : LineView). length x.waiting) f.line ∙ length-drop (handed v m) v.waiting in
     let e : k ≡ handed v m = f.count ∙ given_length v m in
@@ -50,7 +52,8 @@ fill_fewer v w buf buf' n m k z f =
     fewer : (k a b n m : ℕ) → (k ≡ 0 → ⊥) → k ≡ min (min b n) m → a ≡ b - k → a < b
     fewer k a b n m z e q = omega arith
 
-pub fewer_any : {E : Type 0} (r : Result Received E) (v w : LineView) → length w.waiting < length v.waiting → Fewer r v w
+-- so a receive after it may be followed by another
+fewer_any : {E : Type 0} (r : Result Received E) (v w : LineView) → length w.waiting < length v.waiting → Fewer r v w
 fewer_any (Ok Nothing) v w h = tt
 fewer_any (Ok Part) v w h = h
 fewer_any (Ok (Acted letter)) v w h = h

@@ -23,8 +23,8 @@ abbrev pub running_of : Hub → Meaning → Running
 running_of h log = record { log = log; finished = h.finished }
 
 -- a session that is not finished
-abbrev pub begins : Meaning → Running
-begins log = record { log = log; finished = false }
+abbrev pub unfinished : Meaning → Running
+unfinished log = record { log = log; finished = false }
 
 -- its side of a pair: its log, the up and the down line, the rows in use, the buffer of its frame, and the outgoing one
 abbrev pub side_of : Hub → Meaning → LineView → LineView → List Row → List ℕ → List ℕ → Pair

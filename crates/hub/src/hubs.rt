@@ -5,7 +5,7 @@ ghost use Rattle.account.specs.declared.rows.Row.{Row};
 ghost use Rattle.line.specs.Lines.{LineView};
 ghost use Rattle.message_log.specs.Meaning.{Meaning};
 ghost use Rattle.rules.specs.Sides.{hub_side, no_hub};
-ghost use Rattle.hub.specs.Ends.{begins, end_of, running_of, side_of};
+ghost use Rattle.hub.specs.Ends.{end_of, running_of, side_of, unfinished};
 
 use footing::Footing;
 use rules::HubPhase;
@@ -28,7 +28,7 @@ pub struct Hub {
 impl Hub {
     /// A hub with no connection, whose session is not finished.
     pub fn new() -> Hub
-        ensures { (log : Meaning) (up down : LineView) (rows : List Row) (frame out : List ℕ) → side_of result log up down rows frame out ≡ hub_side (begins log) no_hub up down rows frame out }
+        ensures { (log : Meaning) (up down : LineView) (rows : List Row) (frame out : List ℕ) → side_of result log up down rows frame out ≡ hub_side (unfinished log) no_hub up down rows frame out }
     {
         Hub {
             footing: Footing::new(),
