@@ -1,0 +1,15 @@
+//! A pair: a hub and a seat, and every call on them.
+//!
+//! A `Pair` holds the two ends, the account table and the account by which the seat logs in. The logs, the lines and the
+//! buffers are lent to each call, each a parameter of its own. Each call is a step of the rules, from what the pair
+//! meant to its answer and to what the pair means then.
+//!
+//! Left out: runs of calls, and the promises. In the order a reader meets them: `Pair`, the calls, the receives and the
+//! sends.
+#![tactic(auto)]
+
+mod calls;
+mod ends;
+mod pairs;
+
+pub use pairs::Pair;
