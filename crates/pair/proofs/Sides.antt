@@ -10,8 +10,8 @@ use Rattle.rules.specs.Changes.{refuses}
 use Rattle.rules.specs.Frames.{lack, given, left}
 use Rattle.rules.specs.Hub.{listens, hub_sends}
 use Rattle.rules.specs.Seat.{is_apart, seat_sends}
-use Rattle.rules.specs.Calls.{publishes, publish, finish, busy, last_session, roll, tell, say, leave}
-use Rattle.rules.specs.Rounds.{Call, HubReceive, SeatReceive, HubSend, lent_short, HubReceives, SeatReceives, hub_deaf, hub_hears_bytes, seat_deaf, seat_hears_bytes, short_buffer, hub_receives, seat_receives, hub_sends_one}
+use Rattle.rules.specs.Calls.{Done, publishes, publish, finish, busy, last_session, roll, tell, say, leave}
+use Rattle.rules.specs.Rounds.{Call, Answer, Did, Step, did, refusal, HubReceive, SeatReceive, HubSend, SeatSend, lent_short, HubReceives, SeatReceives, hub_deaf, hub_hears_bytes, seat_deaf, seat_hears_bytes, short_buffer, hub_receives, seat_receives, hub_sends_one, seat_sends_one}
 use Rattle.rules.specs.Sides.{hub_side_of, with_hub_side, with_hub_core, seat_side_of, with_seat_side, with_seat_core, on_side}
 use Rattle.rules.proofs.Blind.{along}
 use Rattle.rules.proofs.Sides.{hub_hears_side, seat_hears_side, hub_sends_core, seat_sends_core, tell_core, say_core, leave_core}
@@ -19,7 +19,7 @@ use Rattle.framing.specs.Calling.{answered, unless_short}
 use Rattle.hub.specs.Receives as Hub
 use Rattle.hub.specs.Sends.{told, sends}
 use Rattle.seat.specs.Receives as Seat
-use Rattle.pair.specs.Steps.{HubTakes, SeatTakes, HubPuts}
+use Rattle.pair.specs.Steps.{Does, HubTakes, SeatTakes, HubPuts, SeatPuts}
 
 -- a rule that looks at the hub's side alone, or at the seat's, and leaves the rest alone
 abbrev pub OfHub : {R : Type 0} → (Pair → Outcome R) → Type 0
@@ -34,24 +34,36 @@ hub_core rule h s x = h x (with_hub_side s x) ∙ ap (on_side (with_hub_side s))
 pub seat_core : {R : Type 0} (rule : Pair → Outcome R) → ((s t : Pair) → rule (with_seat_core t s) ≡ on_side (with_seat_core t) (rule s)) → OfSeat rule
 seat_core rule h s x = h x (with_seat_side s x) ∙ ap (on_side (with_seat_side s)) (sym (h x x))
 
--- a call that made this of the hub's side: where a buffer is not short, what holds by its rule holds of the pair
+-- A call that made this of the hub's side, and left the rest: what holds by a short buffer, or by the rule, holds of the pair.
 pub hub_calls : {R : Type 0} (rule : Pair → Outcome R) (Holds : Outcome R → Type 0) (c : Call) (s t : Pair) (r : Result R Refusal) → OfHub rule →
-    (lent_short c s ≡ true → Holds (refuses ShortBuffer s)) → (lent_short c s ≡ false → Holds (rule s)) →
-    answered r (hub_side_of t) ≡ cond (lent_short c s) (refuses ShortBuffer (hub_side_of s)) (rule (hub_side_of s)) → Holds (answered r (with_hub_side s (hub_side_of t)))
-hub_calls {R} rule Holds c s t r own short long = go (lent_short c s) refl
+    (lent_short c s ≡ true → Holds (refuses ShortBuffer s)) → (lent_short c s ≡ false → Holds (rule s)) → with_hub_side s t ≡ t →
+    answered r (hub_side_of t) ≡ cond (lent_short c s) (refuses ShortBuffer (hub_side_of s)) (rule (hub_side_of s)) → Holds (answered r t)
+hub_calls {R} rule Holds c s t r own short long same = go (lent_short c s) refl
   where
-    go : (b : Bool) → lent_short c s ≡ b → answered r (hub_side_of t) ≡ cond b (refuses ShortBuffer (hub_side_of s)) (rule (hub_side_of s)) → Holds (answered r (with_hub_side s (hub_side_of t)))
-    go true q e = subst Holds (sym (ap (on_side (with_hub_side s)) e)) (short q)
-    go false q e = subst Holds (sym (ap (on_side (with_hub_side s)) e ∙ sym (own s (hub_side_of s)))) (long q)
+    go : (b : Bool) → lent_short c s ≡ b → answered r (hub_side_of t) ≡ cond b (refuses ShortBuffer (hub_side_of s)) (rule (hub_side_of s)) → Holds (answered r t)
+    go true q e = subst Holds (sym (ap (on_side (with_hub_side s)) e) ∙ ap (answered r) same) (short q)
+    go false q e = subst Holds (own s (hub_side_of s) ∙ sym (ap (on_side (with_hub_side s)) e) ∙ ap (answered r) same) (long q)
 
 pub seat_calls : {R : Type 0} (rule : Pair → Outcome R) (Holds : Outcome R → Type 0) (c : Call) (s t : Pair) (r : Result R Refusal) → OfSeat rule →
-    (lent_short c s ≡ true → Holds (refuses ShortBuffer s)) → (lent_short c s ≡ false → Holds (rule s)) →
-    answered r (seat_side_of t) ≡ cond (lent_short c s) (refuses ShortBuffer (seat_side_of s)) (rule (seat_side_of s)) → Holds (answered r (with_seat_side s (seat_side_of t)))
-seat_calls {R} rule Holds c s t r own short long = go (lent_short c s) refl
+    (lent_short c s ≡ true → Holds (refuses ShortBuffer s)) → (lent_short c s ≡ false → Holds (rule s)) → with_seat_side s t ≡ t →
+    answered r (seat_side_of t) ≡ cond (lent_short c s) (refuses ShortBuffer (seat_side_of s)) (rule (seat_side_of s)) → Holds (answered r t)
+seat_calls {R} rule Holds c s t r own short long same = go (lent_short c s) refl
   where
-    go : (b : Bool) → lent_short c s ≡ b → answered r (seat_side_of t) ≡ cond b (refuses ShortBuffer (seat_side_of s)) (rule (seat_side_of s)) → Holds (answered r (with_seat_side s (seat_side_of t)))
-    go true q e = subst Holds (sym (ap (on_side (with_seat_side s)) e)) (short q)
-    go false q e = subst Holds (sym (ap (on_side (with_seat_side s)) e ∙ sym (own s (seat_side_of s)))) (long q)
+    go : (b : Bool) → lent_short c s ≡ b → answered r (seat_side_of t) ≡ cond b (refuses ShortBuffer (seat_side_of s)) (rule (seat_side_of s)) → Holds (answered r t)
+    go true q e = subst Holds (sym (ap (on_side (with_seat_side s)) e) ∙ ap (answered r) same) (short q)
+    go false q e = subst Holds (own s (seat_side_of s) ∙ sym (ap (on_side (with_seat_side s)) e) ∙ ap (answered r) same) (long q)
+
+-- the same of a call that is done or refused
+told_short : (c : Call) (s : Pair) → refusal c ShortBuffer ≡ Did (Err ShortBuffer) → lent_short c s ≡ true → Does c s (Err ShortBuffer) s
+told_short c s e q = subst (λ (a : Answer). Step s c (record { answer = a; wrote = None; after = s })) e (short_buffer c q)
+
+pub hub_does : (rule : Pair → Done) (c : Call) (s t : Pair) (r : Result (Unit {0}) Refusal) → OfHub rule → refusal c ShortBuffer ≡ Did (Err ShortBuffer) → (lent_short c s ≡ false → Step s c (did (rule s))) → with_hub_side s t ≡ t →
+    answered r (hub_side_of t) ≡ cond (lent_short c s) (refuses ShortBuffer (hub_side_of s)) (rule (hub_side_of s)) → Does c s r t
+hub_does rule c s t r own e = hub_calls rule (λ (o : Done). Does c s o.answer o.after) c s t r own (told_short c s e)
+
+pub seat_does : (rule : Pair → Done) (c : Call) (s t : Pair) (r : Result (Unit {0}) Refusal) → OfSeat rule → refusal c ShortBuffer ≡ Did (Err ShortBuffer) → (lent_short c s ≡ false → Step s c (did (rule s))) → with_seat_side s t ≡ t →
+    answered r (seat_side_of t) ≡ cond (lent_short c s) (refuses ShortBuffer (seat_side_of s)) (rule (seat_side_of s)) → Does c s r t
+seat_does rule c s t r own e = seat_calls rule (λ (o : Done). Does c s o.answer o.after) c s t r own (told_short c s e)
 
 -- the rules of one side
 pub of_publish : (m : List ℕ) → OfHub (publish m)
@@ -72,17 +84,11 @@ of_roll s x =
 pub of_tell : (m : List ℕ) → OfHub (tell m)
 of_tell m = hub_core (tell m) (tell_core m)
 
-pub of_sends : OfHub sends
-of_sends = hub_core sends (λ s t. ap told (hub_sends_core s t))
-
 pub of_say : (m : List ℕ) → OfSeat (say m)
 of_say m = seat_core (say m) (say_core m)
 
 pub of_leave : OfSeat leave
 of_leave = seat_core leave leave_core
-
-pub of_seat_sends : OfSeat seat_sends
-of_seat_sends = seat_core seat_sends seat_sends_core
 
 -- a receive, once the buffers are long, where the line is then left so much room
 abbrev hub_hearing : ℕ → Pair → Outcome Received
@@ -92,10 +98,10 @@ of_hearing : (room : ℕ) → OfHub (hub_hearing room)
 of_hearing room s x =
     along (on_side (with_hub_side s)) (listens x.hub.phase) _ _ _ _ (hub_hears_side (given x.up (lack x.hub.frame)) (left x.up (lack x.hub.frame) room) x s) refl
 
-pub hub_takes : (s t : Pair) (r : Result Received Refusal) → Hub.Receives (hub_side_of s) r (hub_side_of t) → HubTakes s r (with_hub_side s (hub_side_of t))
-hub_takes s t r h =
+pub hub_takes : (s t : Pair) (r : Result Received Refusal) → with_hub_side s t ≡ t → Hub.Receives (hub_side_of s) r (hub_side_of t) → HubTakes s r t
+hub_takes s t r same h =
     hub_calls (hub_hearing t.up.room) (λ (o : Outcome Received). HubTakes s o.answer o.after) HubReceive s t r (of_hearing t.up.room)
-    (short_buffer HubReceive) (λ q. hub_receives (hub_hearing t.up.room s) q (go q (listens s.hub.phase) refl)) h.outcome
+    (short_buffer HubReceive) (λ q. hub_receives (hub_hearing t.up.room s) q (go q (listens s.hub.phase) refl)) same h.outcome
   where
     go : lent_short HubReceive s ≡ false → (b : Bool) → listens s.hub.phase ≡ b → HubReceives s (cond b (Hub.hears s t.up.room) (refuses WrongPhase s))
     go q true l = hub_hears_bytes t.up.room l (h.free q l)
@@ -108,17 +114,22 @@ of_seat_hearing : (room : ℕ) → OfSeat (seat_hearing room)
 of_seat_hearing room s x =
     along (on_side (with_seat_side s)) (is_apart x.seat.phase) _ _ _ _ refl (seat_hears_side (given x.down (lack x.seat.frame)) (left x.down (lack x.seat.frame) room) x s)
 
-pub seat_takes : (s t : Pair) (r : Result Received Refusal) → Seat.Receives (seat_side_of s) r (seat_side_of t) → SeatTakes s r (with_seat_side s (seat_side_of t))
-seat_takes s t r h =
+pub seat_takes : (s t : Pair) (r : Result Received Refusal) → with_seat_side s t ≡ t → Seat.Receives (seat_side_of s) r (seat_side_of t) → SeatTakes s r t
+seat_takes s t r same h =
     seat_calls (seat_hearing t.down.room) (λ (o : Outcome Received). SeatTakes s o.answer o.after) SeatReceive s t r (of_seat_hearing t.down.room)
-    (short_buffer SeatReceive) (λ q. seat_receives (seat_hearing t.down.room s) q (go q (is_apart s.seat.phase) refl)) h.outcome
+    (short_buffer SeatReceive) (λ q. seat_receives (seat_hearing t.down.room s) q (go q (is_apart s.seat.phase) refl)) same h.outcome
   where
     go : lent_short SeatReceive s ≡ false → (b : Bool) → is_apart s.seat.phase ≡ b → SeatReceives s (cond b (refuses WrongPhase s) (Seat.hears s t.down.room))
     go q true l = seat_deaf l
     go q false l = seat_hears_bytes t.down.room l (h.free q l)
 
 -- a send of the hub, whose packet the call does not tell
-pub hub_puts : (s t : Pair) (r : Result (Option Letter) Refusal) → answered r (hub_side_of t) ≡ unless_short sends (hub_side_of s) → HubPuts s r (with_hub_side s (hub_side_of t))
+pub hub_puts : (s t : Pair) (r : Result (Option Letter) Refusal) → with_hub_side s t ≡ t → answered r (hub_side_of t) ≡ unless_short sends (hub_side_of s) → HubPuts s r t
 hub_puts s t r =
-    hub_calls sends (λ (o : Outcome (Option Letter)). HubPuts s o.answer o.after) HubSend s t r of_sends
+    hub_calls sends (λ (o : Outcome (Option Letter)). HubPuts s o.answer o.after) HubSend s t r (hub_core sends (λ x y. ap told (hub_sends_core x y)))
     (λ q. (None, short_buffer HubSend q)) (λ q. ((hub_sends s).wrote, hub_sends_one q))
+
+pub seat_puts : (s t : Pair) (r : Result (Option Letter) Refusal) → with_seat_side s t ≡ t → answered r (seat_side_of t) ≡ unless_short seat_sends (seat_side_of s) → SeatPuts s r t
+seat_puts s t r =
+    seat_calls seat_sends (λ (o : Outcome (Option Letter)). SeatPuts s o.answer o.after) SeatSend s t r (seat_core seat_sends seat_sends_core)
+    (short_buffer SeatSend) seat_sends_one
