@@ -11,5 +11,6 @@
 mod calls;
 mod ends;
 mod pairs;
+mod setting;
 
 pub use pairs::Pair;

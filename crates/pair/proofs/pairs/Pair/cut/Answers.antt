@@ -8,5 +8,5 @@ returns g c hub_log seat_log hub_frame seat_frame out =
     let p = c.args.self.now in
     let up = g.U.Line.view c.args.up.now in
     let down = g.D.Line.view c.args.down.now in
-    cuts_both (pair_of p hub_log seat_log up down hub_frame seat_frame out) _ _ _ _ c.clear.ensures c.clear-2.ensures
+    cuts_both (pair_of p hub_log seat_log up down hub_frame seat_frame out) _ _ (g.U.Line.view c.clear.new.self) (g.D.Line.view c.clear-2.new.self) c.clear.ensures c.clear-2.ensures
     (c.cut.ensures hub_log up down hub_frame out) (c.cut-2.ensures seat_log up down (fields_of p.account) seat_frame out)

@@ -1,0 +1,118 @@
+//! How a pair is made of its parts.
+ghost use Rattle.std.specs.Prelude.{◌≡◌, ◌&&◌};
+ghost use Rattle.std.specs.Str.{bytes_eq};
+ghost use Rattle.line.specs.Lines.{LineView};
+ghost use Rattle.message_log.specs.Meaning.{nth};
+ghost use Rattle.message_log.specs.Calls.{has};
+ghost use Rattle.rules.specs.SetUp.{first_of, follows, started};
+ghost use Rattle.pair.specs.Makings.{SetsUp};
+
+use crate::pairs::Pair;
+use account::{Account, Accounts};
+use fault::{Refusal, Unmade};
+use hub::Hub;
+use layout::{MESSAGE_LIMIT, PACKET_LIMIT};
+use message_log::Log;
+use seat::Seat;
+
+// The session that a hub's log without one begins.
+const FIRST_SESSION: u8 = 1;
+
+impl Pair {
+    /// A pair with no connection, of an account table and of the account fields by which the seat logs in. A hub's log
+    /// without a session begins session 1. Refuses by `ShortBuffer`, by `SizeOutOfRange` where the seat's log does not
+    /// follow the hub's, and by `BadAccountField`, in this order; a refusal changes nothing, and hands the table back.
+    ///
+    /// The logs and the buffers are lent again to each call.
+    pub fn set_up<G: Log, S: Log>(
+        accounts: Accounts,
+        user: &[u8],
+        computer: &[u8],
+        protocol: &[u8],
+        hub_log: &mut G,
+        seat_log: &S,
+        hub_frame: &[u8],
+        seat_frame: &[u8],
+        out: &[u8],
+    ) -> Result<Pair, Unmade<Accounts>>
+        ensures { (up down : LineView) → SetsUp accounts (record { hub_log = G.Log.view hub_log.old; seat_log = S.Log.view seat_log.now; up = up; down = down; rows = accounts.rows; user = user.now; computer = computer.now; protocol = protocol.now; buffers = record { hub_frame = hub_frame.now; seat_frame = seat_frame.now; out = out.now } }) result (G.Log.view hub_log.new) }
+    {
+        if hub_frame.len() < PACKET_LIMIT
+            || seat_frame.len() < PACKET_LIMIT
+            || out.len() < PACKET_LIMIT
+        {
+            return Err(Unmade {
+                refusal: Refusal::ShortBuffer,
+                given: accounts,
+            });
+        }
+        if !follows(seat_log, hub_log) {
+            return Err(Unmade {
+                refusal: Refusal::SizeOutOfRange,
+                given: accounts,
+            });
+        }
+        match Account::new(user, computer, protocol) {
+            Ok(account) => {
+                start(hub_log);
+                Ok(Pair {
+                    hub: Hub::new(),
+                    seat: Seat::new(),
+                    accounts,
+                    account,
+                })
+            }
+            Err(refusal) => Err(Unmade {
+                refusal,
+                given: accounts,
+            }),
+        }
+    }
+}
+
+// A hub's log without a session begins the first.
+fn start<G: Log>(log: &mut G)
+    ensures { G.Log.view log.new ≡ started (G.Log.view log.old) }
+{
+    if log.session() == 0 {
+        let _ = log.begin(FIRST_SESSION);
+    }
+}
+
+// Whether the seat's log is empty without a session, or a beginning of the hub's, as that is once it is started.
+fn follows<S: Log, G: Log>(seat_log: &S, hub_log: &G) -> bool
+    ensures { result ≡ follows (S.Log.view seat_log.now) (started (G.Log.view hub_log.now)) }
+{
+    if seat_log.session() == 0 {
+        return seat_log.count() == 0;
+    }
+    let session = match hub_log.session() {
+        0 => FIRST_SESSION,
+        session => session,
+    };
+    seat_log.session() == session && begins(seat_log, hub_log)
+}
+
+// Whether the messages of a log are the first ones of another.
+fn begins<S: Log, G: Log>(beginning: &S, log: &G) -> bool
+    ensures { result ≡ first_of (S.Log.view beginning.now).messages (G.Log.view log.now).messages }
+{
+    for place in 0..beginning.count() {
+        if !share(beginning, log, place + 1) {
+            return false;
+        }
+    }
+    true
+}
+
+// Whether both logs hold a message n, and it is the same.
+fn share<S: Log, G: Log>(one: &S, other: &G, n: usize) -> bool
+    ensures { result ≡ has (S.Log.view one.now) n && (has (G.Log.view other.now) n && bytes_eq (nth (S.Log.view one.now) n) (nth (G.Log.view other.now) n)) }
+{
+    let mut message = [0; MESSAGE_LIMIT];
+    let mut twin = [0; MESSAGE_LIMIT];
+    match (one.read(n, &mut message), other.read(n, &mut twin)) {
+        (Ok(length), Ok(size)) => message[0..length] == twin[0..size],
+        _ => false,
+    }
+}
