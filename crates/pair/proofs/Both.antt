@@ -1,5 +1,5 @@
 -- The calls that concern both ends come to what the two made of their sides.
-use Rattle.std.proofs.Common.{◌≡◌, Bool, true, false, cond, eqb, leb, Ok, Err, Option, Result, sym, refl, ap, subst, ◌∙◌}
+use Rattle.std.proofs.Common.{◌≡◌, Bool, true, false, cond, eqb, leb, Ok, Err, Result, sym, refl, ap, subst, ◌∙◌}
 use Rattle.fault.specs.declared.refusals.Refusal.{Refusal}
 use Rattle.fault.specs.declared.refusals.Refusal.TheVariants.{ShortBuffer, NoSession, NothingToFetch}
 use Rattle.line.specs.Lines.{LineView, cleared}
@@ -7,7 +7,7 @@ use Rattle.message_log.specs.Meaning.{count}
 use Rattle.rules.specs.declared.phases.HubPhase.{HubPhase}
 use Rattle.rules.specs.declared.phases.How.{How}
 use Rattle.rules.specs.declared.phases.How.TheVariants.{Join, Anew, Fetch}
-use Rattle.rules.specs.State.{Pair, Outcome}
+use Rattle.rules.specs.State.{Pair}
 use Rattle.rules.specs.Changes.{with_up, with_down, refuses}
 use Rattle.rules.specs.Calls.{Done, done, connect, connected, cut, tick, counted, hub_timed, seat_timed}
 use Rattle.rules.specs.Rounds.{Connect, Cut, Tick, too_short, short_buffer, connects, cuts, ticks, did, Step}
@@ -87,9 +87,9 @@ ticks_both s t u a x w h v = go (too_short s.buffers.out) refl h
     go false q h =
         let m : Pair = with_hub_side (counted s) u in
         let l : hub_timed s.hub.phase (counted s) ≡ m =
-            timed_hub s.hub.phase (counted s) (counted (hub_side_of s)) ∙ ap (with_hub_side (counted s)) (sym (ap (λ (o : Done). o.after) h)) in
+        timed_hub s.hub.phase (counted s) (counted (hub_side_of s)) ∙ ap (with_hub_side (counted s)) (sym (ap (λ (o : Done). o.after) h)) in
         let e : tick s ≡ with_seat_side (with_hub_side s u) t =
-            ap seat_timed l ∙ timed_seat m (counted (seat_side_of (with_hub_side s u))) ∙ ap (with_seat_side m) (sym v) in
+        ap seat_timed l ∙ timed_seat m (counted (seat_side_of (with_hub_side s u))) ∙ ap (with_seat_side m) (sym v) in
         subst (λ (y : Pair). Does Tick s (Ok tt) y) e (ticks q)
 
 pub ticks_refused : (s u : Pair) (a r : Result (Unit {0}) Refusal) (e : Refusal) → a ≡ Err e → r ≡ Err e → answered a u ≡ unless_short times (hub_side_of s) → Does Tick s r (with_hub_side s u)

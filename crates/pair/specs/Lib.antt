@@ -1,3 +1,4 @@
 pub mod Meanings
 pub mod Steps
 pub mod Makings
+pub mod Messages

@@ -10,7 +10,9 @@
 
 mod calls;
 mod ends;
+mod messages;
 mod pairs;
 mod setting;
 
+pub use messages::message_in;
 pub use pairs::Pair;

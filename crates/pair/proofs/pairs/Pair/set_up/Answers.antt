@@ -1,9 +1,7 @@
-use Rattle.std.proofs.Common.{◌≡◌, false, List, length, ap, sym, ◌∙◌, arith}
+use Rattle.std.proofs.Common.{length, ap, sym, ◌∙◌, arith}
 use Rattle.std.proofs.lemmas.Bool.{le-ltb}
 use Rattle.layout.specs.Limits.{packet_limit}
-use Rattle.message_log.specs.Meaning.{Meaning}
-use Rattle.rules.specs.State.{Running, HubEnd, Pair}
-use Rattle.rules.specs.Rounds.{too_short}
+use Rattle.rules.specs.State.{Pair}
 use Rattle.rules.specs.SetUp.{Parts}
 use Rattle.hub.specs.Ends.{begins}
 use Rattle.pair.proofs.Makings.{sets_up}
@@ -18,6 +16,6 @@ returns-in-Ok g c up down =
     let rows = c.args.accounts.rows in
     let parts : Parts = record { hub_log = g.G.Log.view c.args.hub_log.now; seat_log = g.S.Log.view c.args.seat_log.now; up = up; down = down; rows = rows; user = c.args.user.now; computer = c.args.computer.now; protocol = c.args.protocol.now; buffers = record { hub_frame = hub_frame; seat_frame = seat_frame; out = out } } in
     let h = c.new-in-Ok.ensures log up down rows hub_frame out in
-    sets_up parts c.in-Ok.account _ _ _ (le-ltb (length hub_frame) packet_limit (omega arith)) (le-ltb (length seat_frame) packet_limit (omega arith)) (le-ltb (length out) packet_limit (omega arith))
-    (sym c.follows.ensures ∙ c.if-not-follows.false) (sym c.new.ensures ∙ c.in-Ok.is)
+    sets_up parts c.in-Ok.account _ _ _ _ (le-ltb (length hub_frame) packet_limit (omega arith)) (le-ltb (length seat_frame) packet_limit (omega arith)) (le-ltb (length out) packet_limit (omega arith))
+    (sym c.follows.ensures ∙ c.if-not-follows.false) c.new.ensures c.in-Ok.is
     (ap (λ (x : Pair). x.running) h ∙ ap begins c.start.ensures) (ap (λ (x : Pair). x.hub) h) (c.new-in-Ok-2.ensures seat_frame)
