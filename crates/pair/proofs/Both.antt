@@ -20,11 +20,11 @@ use Rattle.seat.proofs.Asks.{connect_refused, connect_granted}
 use Rattle.pair.specs.Steps.{Does}
 use Rattle.pair.proofs.Sides.{hub_core, seat_core}
 
--- a pair as a connect finds it once the down line is cleared
+-- the seat's side as a connect finds it, once the down line is cleared
 abbrev pub facing : Pair → Pair
 facing s = seat_side_of (with_down s (cleared s.down))
 
--- the seat's side but for the down line
+-- a pair whose seat's side is that of another, but for the down line
 abbrev pub with_asker : Pair → Pair → Pair
 with_asker s t = with_down (with_seat_side s t) s.down
 

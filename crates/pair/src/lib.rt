@@ -4,8 +4,8 @@
 //! buffers are lent to each call, each a parameter of its own. Each call is a step of the rules, from what the pair
 //! meant to its answer and to what the pair means then.
 //!
-//! Left out: runs of calls, and the promises. In the order a reader meets them: `Pair`, the calls, the receives and the
-//! sends.
+//! Left out: runs of calls, and the promises. In the order a reader meets them: `Pair` and what it answers of itself,
+//! `Pair::set_up`, the calls, the receives and the sends, `message_in`.
 #![tactic(auto)]
 
 mod calls;
