@@ -1,3 +1,4 @@
 pub mod Sides
 pub mod Both
 pub mod Makings
+pub mod Drains

@@ -2,3 +2,4 @@ pub mod Meanings
 pub mod Steps
 pub mod Makings
 pub mod Messages
+pub mod Goings

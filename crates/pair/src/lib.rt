@@ -5,13 +5,14 @@
 //! meant to its answer and to what the pair means then.
 //!
 //! Left out: runs of calls, and the promises. In the order a reader meets them: `Pair` and what it answers of itself,
-//! `Pair::set_up`, the calls, the receives and the sends, `message_in`.
+//! `Pair::set_up`, the calls, the receives and the sends, `round`, `message_in`.
 #![tactic(auto)]
 
 mod calls;
 mod ends;
 mod messages;
 mod pairs;
+mod rounds;
 mod setting;
 
 pub use messages::message_in;

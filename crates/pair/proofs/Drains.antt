@@ -1,0 +1,74 @@
+-- How receives, one after the other, come to what an end drains; and what a step of one call tells.
+use Rattle.std.proofs.Common.{◌≡◌, ℕ, ◌+◌, ◌≤◌, false, ◌||◌, List, length, Ok, Err, Option, Result, sym, refl, subst, ap, add_assoc, zero-add, add-zero, arith}
+use Rattle.std.proofs.lemmas.Bool.{or_from, le-ltb}
+use Rattle.fault.specs.declared.faults.Fault.{Fault}
+use Rattle.fault.specs.declared.refusals.Refusal.{Refusal}
+use Rattle.layout.specs.Limits.{packet_limit}
+use Rattle.layout.specs.declared.letters.Letter.{Letter}
+use Rattle.packet.specs.Values.{Value}
+use Rattle.rules.specs.declared.answers.Received.{Received}
+use Rattle.rules.specs.declared.answers.Received.TheVariants.{Nothing, Part, Acted, Message}
+use Rattle.rules.specs.State.{Pair, Outcome}
+use Rattle.rules.specs.Hub.{hub_sends}
+use Rattle.rules.specs.Seat.{seat_sends}
+use Rattle.rules.specs.Rounds.{HubReceives, SeatReceives, HubReceive, SeatReceive, HubSend, SeatSend, going, over, onward, Drains, ends, more, Took, Put, too_short, lent_short, Deed, Step, short_buffer, hub_receives, seat_receives, hub_sends_one, seat_sends_one}
+use Rattle.pair.specs.Steps.{HubTakes, SeatTakes, HubPuts, SeatPuts}
+
+-- so many packets were acted on, from the first pair to the second, and the receives go on
+pub record Ahead (R : Pair → Outcome Received → Type 0) (s : Pair) (k : ℕ) (t : Pair) : Type 0 where
+  pub then : (n : ℕ) (fault : Option Fault) (u : Pair) → Drains R t n fault u → Drains R s (k + n) fault u
+
+module _ (R : Pair → Outcome Received → Type 0) where
+  pub ahead_none : (s : Pair) → Ahead R s 0 s
+  ahead_none s = record { then = λ n f u d. subst (λ m. Drains R s m f u) (sym (zero-add n)) d }
+
+  pub ahead_more : (s t : Pair) (o : Outcome Received) (k j : ℕ) → Ahead R s k t → R t o → going o.answer ≡ onward j → Ahead R s (k + j) o.after
+  ahead_more s t o k j a r g = record { then = λ n f u d. subst (λ m. Drains R s m f u) (sym (add_assoc k j n)) (a.then (j + n) f u (more t o j n f u r g d)) }
+
+  pub ahead_ends : (s t : Pair) (o : Outcome Received) (k : ℕ) (f : Option Fault) → Ahead R s k t → R t o → going o.answer ≡ over f → Drains R s k f o.after
+  ahead_ends s t o k f a r g = subst (λ m. Drains R s m f o.after) (add-zero k) (a.then 0 f o.after (ends t o f r g))
+
+-- a buffer that holds the longest packet is not too short
+pub long : (buffer : List ℕ) → packet_limit ≤ length buffer → too_short buffer ≡ false
+long buffer h = le-ltb (length buffer) packet_limit h
+
+pub both_long : (a b : List ℕ) → packet_limit ≤ length a → packet_limit ≤ length b → too_short a || too_short b ≡ false
+both_long a b h k = or_from _ _ (long a h) (long b k)
+
+-- a receive to which no short buffer is lent
+hub_step : (s : Pair) (d : Deed) (answer : Result Received Refusal) → lent_short HubReceive s ≡ false → Step s HubReceive d → d.answer ≡ Took answer → HubReceives s (record { answer = answer; after = d.after })
+hub_step s _ a f (short_buffer _ e) g = (cc)
+hub_step s _ a f (hub_receives o e r) g = let h : o.answer ≡ a = cc in subst (λ x. HubReceives s (record { answer = x; after = o.after })) h r
+
+pub hub_received : (s t : Pair) (answer : Result Received Refusal) → lent_short HubReceive s ≡ false → HubTakes s answer t → HubReceives s (record { answer = answer; after = t })
+hub_received s t a f h = hub_step s _ a f h refl
+
+seat_step : (s : Pair) (d : Deed) (answer : Result Received Refusal) → lent_short SeatReceive s ≡ false → Step s SeatReceive d → d.answer ≡ Took answer → SeatReceives s (record { answer = answer; after = d.after })
+seat_step s _ a f (short_buffer _ e) g = (cc)
+seat_step s _ a f (seat_receives o e r) g = let h : o.answer ≡ a = cc in subst (λ x. SeatReceives s (record { answer = x; after = o.after })) h r
+
+pub seat_received : (s t : Pair) (answer : Result Received Refusal) → lent_short SeatReceive s ≡ false → SeatTakes s answer t → SeatReceives s (record { answer = answer; after = t })
+seat_received s t a f h = seat_step s _ a f h refl
+
+-- a send to which no short buffer is lent, granted or refused, leaves the pair as the rule says
+hub_sent_by : (s : Pair) (d : Deed) → lent_short HubSend s ≡ false → Step s HubSend d → d.after ≡ (hub_sends s).after
+hub_sent_by s _ f (short_buffer _ e) = (cc)
+hub_sent_by s _ f (hub_sends_one e) = refl
+
+pub hub_sent : (s t : Pair) (answer : Result (Option Letter) Refusal) → lent_short HubSend s ≡ false → HubPuts s answer t → t ≡ (hub_sends s).after
+hub_sent s t a f (wrote, h) = hub_sent_by s _ f h
+
+seat_sent_by : (s : Pair) (d : Deed) → lent_short SeatSend s ≡ false → Step s SeatSend d → d.after ≡ (seat_sends s).after
+seat_sent_by s _ f (short_buffer _ e) = (cc)
+seat_sent_by s _ f (seat_sends_one e) = refl
+
+pub seat_sent : (s t : Pair) (answer : Result (Option Letter) Refusal) → lent_short SeatSend s ≡ false → SeatPuts s answer t → t ≡ (seat_sends s).after
+seat_sent s t a f h = seat_sent_by s _ f h
+
+-- a receive acts on one packet at most
+pub one_at_most : (answer : Result Received Refusal) (k : ℕ) → going answer ≡ onward k → k ≤ 1
+one_at_most (Ok Nothing) k e = (cc)
+one_at_most (Ok Part) k e = let h : k ≡ 0 = cc in omega arith
+one_at_most (Ok (Acted letter)) k e = let h : k ≡ 1 = cc in omega arith
+one_at_most (Ok (Message place long)) k e = let h : k ≡ 1 = cc in omega arith
+one_at_most (Err refusal) k e = (cc)

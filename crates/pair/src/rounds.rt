@@ -1,0 +1,120 @@
+//! A round: each end receives what waits for it, and sends once.
+ghost use Rattle.std.specs.Prelude.{◌≡◌, ◌≤◌, ℕ, List, length};
+ghost use Rattle.layout.specs.Limits.{packet_limit};
+ghost use Rattle.message_log.specs.Meaning.{Meaning};
+ghost use Rattle.rules.specs.Rounds.{Drains, HubReceives, SeatReceives, going};
+ghost use Rattle.pair.specs.Meanings.{pair_of};
+ghost use Rattle.pair.specs.Steps.{Goes};
+ghost use Rattle.pair.specs.Goings.{meant};
+
+use crate::pairs::Pair;
+use fault::{Fault, LogFault, Refusal};
+use layout::PACKET_LIMIT;
+use line::SteadyLine;
+use message_log::Log;
+use rules::{Heard, Received, Report};
+
+// What a receive's answer means for a round.
+enum Going {
+    // The receives end, with what was wrong if something was.
+    Over(Option<Fault>),
+    // They go on, with so many packets more acted on.
+    Onward(usize),
+}
+
+impl Going {
+    // What this answer means.
+    fn of(answer: Result<Received, Refusal>) -> Going
+        ensures { meant result ≡ going answer }
+    {
+        match answer {
+            Ok(Received::Nothing) => Going::Over(None),
+            Ok(Received::Part) => Going::Onward(0),
+            Ok(Received::Acted(_)) => Going::Onward(1),
+            Ok(Received::Message { .. }) => Going::Onward(1),
+            Err(Refusal::BadPacket(fault)) => Going::Over(Some(Fault::Packet(fault))),
+            Err(Refusal::LogFull) => Going::Over(Some(Fault::Log(LogFault::Full))),
+            Err(_) => Going::Over(None),
+        }
+    }
+}
+
+impl Pair {
+    /// A round: the hub receives until nothing waits or it is refused, and sends; then the seat does. A send that is
+    /// refused sends nothing. It answers for each end how many packets were acted on, and what was wrong. Refuses by
+    /// `ShortBuffer`, with nothing changed.
+    pub fn round<G: Log, S: Log, U: SteadyLine, D: SteadyLine>(
+        &mut self,
+        hub_log: &G,
+        seat_log: &mut S,
+        up: &mut U,
+        down: &mut D,
+        hub_frame: &mut [u8],
+        seat_frame: &mut [u8],
+        out: &mut [u8],
+    ) -> Result<Report, Refusal>
+        ensures { Goes (pair_of self.old (G.Log.view hub_log.now) (S.Log.view seat_log.old) (U.Line.view up.old) (D.Line.view down.old) hub_frame.old seat_frame.old out.old) result (pair_of self.new (G.Log.view hub_log.now) (S.Log.view seat_log.new) (U.Line.view up.new) (D.Line.view down.new) hub_frame.new seat_frame.new out.new) }
+    {
+        if hub_frame.len() < PACKET_LIMIT {
+            return Err(Refusal::ShortBuffer);
+        }
+        if seat_frame.len() < PACKET_LIMIT {
+            return Err(Refusal::ShortBuffer);
+        }
+        if out.len() < PACKET_LIMIT {
+            return Err(Refusal::ShortBuffer);
+        }
+        let hub = self.drain_hub(hub_log, up, down, hub_frame, out);
+        let _ = self.hub_send(hub_log, down, out);
+        let seat = self.drain_seat(seat_log, up, down, seat_frame, out);
+        let _ = self.seat_send(seat_log, up, out);
+        Ok(Report { hub, seat })
+    }
+
+    // The hub receives until nothing waits or it is refused.
+    fn drain_hub<G: Log, U: SteadyLine, D: SteadyLine>(
+        &mut self,
+        hub_log: &G,
+        up: &mut U,
+        down: &mut D,
+        hub_frame: &mut [u8],
+        out: &mut [u8],
+    ) -> Heard
+        requires frame { packet_limit ≤ length hub_frame.old }
+        requires out { packet_limit ≤ length out.old }
+        ensures { (seat_log : Meaning) (seat_frame : List ℕ) → Drains HubReceives (pair_of self.old (G.Log.view hub_log.now) seat_log (U.Line.view up.old) (D.Line.view down.old) hub_frame.old seat_frame out.old) result.packets result.fault (pair_of self.new (G.Log.view hub_log.now) seat_log (U.Line.view up.new) (D.Line.view down.new) hub_frame.new seat_frame out.new) }
+    {
+        // Each packet takes a byte at least, so that there are no more of them than this.
+        let _most = up.waiting();
+        let mut packets = 0;
+        loop {
+            match Going::of(self.hub_receive(hub_log, up, down, hub_frame, out)) {
+                Going::Over(fault) => return Heard { packets, fault },
+                Going::Onward(more) => packets += more,
+            }
+        }
+    }
+
+    // The seat receives until nothing waits or it is refused.
+    fn drain_seat<S: Log, U: SteadyLine, D: SteadyLine>(
+        &mut self,
+        seat_log: &mut S,
+        up: &mut U,
+        down: &mut D,
+        seat_frame: &mut [u8],
+        out: &mut [u8],
+    ) -> Heard
+        requires frame { packet_limit ≤ length seat_frame.old }
+        requires out { packet_limit ≤ length out.old }
+        ensures { (hub_log : Meaning) (hub_frame : List ℕ) → Drains SeatReceives (pair_of self.old hub_log (S.Log.view seat_log.old) (U.Line.view up.old) (D.Line.view down.old) hub_frame seat_frame.old out.old) result.packets result.fault (pair_of self.new hub_log (S.Log.view seat_log.new) (U.Line.view up.new) (D.Line.view down.new) hub_frame seat_frame.new out.new) }
+    {
+        let _most = down.waiting();
+        let mut packets = 0;
+        loop {
+            match Going::of(self.seat_receive(seat_log, up, down, seat_frame, out)) {
+                Going::Over(fault) => return Heard { packets, fault },
+                Going::Onward(more) => packets += more,
+            }
+        }
+    }
+}
