@@ -1,18 +1,19 @@
 -- How receives, one after the other, come to what an end drains; and what a step of one call tells.
-use Rattle.std.proofs.Common.{◌≡◌, ℕ, ◌+◌, ◌≤◌, false, ◌||◌, List, length, Ok, Err, Option, Result, sym, refl, subst, ap, add_assoc, zero-add, add-zero, arith}
-use Rattle.std.proofs.lemmas.Bool.{or_from, le-ltb}
+use Rattle.std.proofs.Common.{◌≡◌, ℕ, ◌+◌, ◌<◌, ◌≤◌, true, false, ◌||◌, List, length, Ok, Err, Option, Result, sym, refl, subst, ap, add_assoc, zero-add, add-zero, arith}
+use Rattle.std.proofs.lemmas.Bool.{or_from, lt-ltb, le-ltb}
 use Rattle.fault.specs.declared.faults.Fault.{Fault}
 use Rattle.fault.specs.declared.refusals.Refusal.{Refusal}
 use Rattle.layout.specs.Limits.{packet_limit}
 use Rattle.layout.specs.declared.letters.Letter.{Letter}
 use Rattle.packet.specs.Values.{Value}
 use Rattle.rules.specs.declared.answers.Received.{Received}
+use Rattle.rules.specs.declared.answers.Report.{Report}
 use Rattle.rules.specs.declared.answers.Received.TheVariants.{Nothing, Part, Acted, Message}
 use Rattle.rules.specs.State.{Pair, Outcome}
 use Rattle.rules.specs.Hub.{hub_sends}
 use Rattle.rules.specs.Seat.{seat_sends}
-use Rattle.rules.specs.Rounds.{HubReceives, SeatReceives, HubReceive, SeatReceive, HubSend, SeatSend, going, over, onward, Drains, ends, more, Took, Put, too_short, lent_short, Deed, Step, short_buffer, hub_receives, seat_receives, hub_sends_one, seat_sends_one}
-use Rattle.pair.specs.Steps.{HubTakes, SeatTakes, HubPuts, SeatPuts}
+use Rattle.rules.specs.Rounds.{HubReceives, SeatReceives, HubReceive, SeatReceive, HubSend, SeatSend, Round, going, over, onward, Drains, ends, more, Took, Put, too_short, lent_short, Deed, Step, short_buffer, hub_receives, seat_receives, hub_sends_one, seat_sends_one, rounds}
+use Rattle.pair.specs.Steps.{HubTakes, SeatTakes, HubPuts, SeatPuts, Goes}
 
 -- so many packets were acted on, from the first pair to the second, and the receives go on
 pub record Ahead (R : Pair → Outcome Received → Type 0) (s : Pair) (k : ℕ) (t : Pair) : Type 0 where
@@ -72,3 +73,22 @@ one_at_most (Ok Part) k e = let h : k ≡ 0 = cc in omega arith
 one_at_most (Ok (Acted letter)) k e = let h : k ≡ 1 = cc in omega arith
 one_at_most (Ok (Message place long)) k e = let h : k ≡ 1 = cc in omega arith
 one_at_most (Err refusal) k e = (cc)
+
+-- a buffer that is shorter than the longest packet is too short
+pub short : (buffer : List ℕ) → length buffer < packet_limit → too_short buffer ≡ true
+short buffer h = lt-ltb (length buffer) packet_limit h
+
+-- a round, of the receives and sends that it is made of
+pub round_goes : (s heard sent taken t : Pair) (report : Report) (hub : Result (Option Letter) Refusal) (seat : Result (Option Letter) Refusal) → lent_short Round s ≡ false →
+    Drains HubReceives s report.hub.packets report.hub.fault heard → lent_short HubSend heard ≡ false → HubPuts heard hub sent →
+    Drains SeatReceives sent report.seat.packets report.seat.fault taken → lent_short SeatSend taken ≡ false → SeatPuts taken seat t →
+    Goes s (Ok report) t
+round_goes s heard sent taken t report hub seat e a e1 b c e2 d =
+    ((hub_sends heard).wrote, rounds report _ t e (record {
+      heard = heard;
+      taken = taken;
+      hub_drains = a;
+      hub_wrote = refl;
+      seat_drains = subst (λ x. Drains SeatReceives x report.seat.packets report.seat.fault taken) (hub_sent heard sent hub e1 b) c;
+      seat_sent = seat_sent taken t seat e2 d;
+    }))
