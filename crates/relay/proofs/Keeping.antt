@@ -1,5 +1,7 @@
 -- Steps of the rules keep the promises.
-use Rattle.std.proofs.Common.{◌≡◌, List, [], ◌∷◌, Option, refl, sym, ap, subst}
+use Rattle.std.proofs.Common.{◌≡◌, ℕ, ◌+◌, ◌<◌, List, [], ◌∷◌, ◌++◌, length, map, take, get_or, Option, refl, sym, ap, ◌∙◌, subst, add-one}
+use Rattle.std.proofs.Math.Seq.{take-suc}
+use Rattle.std.proofs.lemmas.List.{map-append}
 use Rattle.packet.specs.Values.{Value}
 use Rattle.rules.specs.State.{Pair}
 use Rattle.rules.specs.Rounds.{Call, Answer, Deed, Step}
@@ -17,11 +19,29 @@ pub played_on : {o : Pair} {v w : World} {calls : List Call} {answers : List Ans
 played_on h none = h
 played_on h (one_more p call d s) = let k = played_on h p in (k.0, goes_on k.1 call d s)
 
-pub followed : (o : Pair) (v w : World) (calls : List Call) (answers : List Answer) → History Step o v → Played v calls answers w → Followed o v calls answers w.pair
-followed o v w calls answers h p = record { now = w; stands = refl; played = p; promised = promised o w (played_on h p) }
+-- no call, and one call more
+pub keeps_none : (s : Pair) → Keeps s [] [] s
+keeps_none s o v h e = record { now = v; stands = e; played = none; promised = promised o v h }
+
+pub keeps_one : {s t u : Pair} {calls : List Call} {answers : List Answer} {call : Call} {answer : Answer} (wrote : Option Value) →
+    Keeps s calls answers t → Step t call (record { answer = answer; wrote = wrote; after = u }) → Keeps s (calls ++ call ∷ []) (answers ++ answer ∷ []) u
+keeps_one {s} {t} {u} {calls} {answers} {call} {answer} wrote k step o v h e =
+    let f = k o v h e in
+    let d : Deed = record { answer = answer; wrote = wrote; after = u } in
+    let p : Played v (calls ++ call ∷ []) (answers ++ answer ∷ []) (stepped f.now call d) = one_more f.played call d (subst (λ x. Step x call d) (sym f.stands) step) in
+    record { now = stepped f.now call d; stands = refl; played = p; promised = promised o (stepped f.now call d) (played_on h p) }
 
 pub performed : {s t : Pair} {given call : Call} {answer : Answer} → given ≡ call → (wrote : Option Value) → Step s call (record { answer = answer; wrote = wrote; after = t }) → Performed s given answer t
 performed {s} {t} {given} {call} {answer} i wrote rule =
-    let d : Deed = record { answer = answer; wrote = wrote; after = t } in
-    let step : Step s given d = subst (λ x. Step s x d) (sym i) rule in
-    record { wrote = wrote; step = step; keeps = λ o v h e. followed o v (stepped v given d) (given ∷ []) (answer ∷ []) h (one_more none given d (subst (λ x. Step x given d) (sym e) step)) }
+    let step : Step s given (record { answer = answer; wrote = wrote; after = t }) = subst (λ x. Step s x (record { answer = answer; wrote = wrote; after = t })) (sym i) rule in
+    record { wrote = wrote; step = step; keeps = keeps_one wrote (keeps_none s) step }
+
+-- lists of calls and answers, one longer
+pub keeps_next : {C A : Type 0} (call_of : C → Call) (answer_of : A → Answer) {s t u : Pair} (calls : List C) (i : ℕ) (d : C) (answers more : List A) (a : A) →
+    Keeps s (map call_of (take i calls)) (map answer_of answers) t → i < length calls → more ≡ answers ++ a ∷ [] →
+    Performed t (call_of (get_or calls i d)) (answer_of a) u → Keeps s (map call_of (take (i + 1) calls)) (map answer_of more) u
+keeps_next call_of answer_of {s} {t} {u} calls i d answers more a k l m p =
+    let f : map call_of (take (i + 1) calls) ≡ map call_of (take i calls) ++ call_of (get_or calls i d) ∷ [] =
+    ap (λ n. map call_of (take n calls)) (add-one i) ∙ ap (map call_of) (take-suc calls i d l) ∙ map-append call_of (take i calls) (get_or calls i d ∷ []) in
+    let g : map answer_of more ≡ map answer_of answers ++ answer_of a ∷ [] = ap (map answer_of) m ∙ map-append answer_of answers (a ∷ []) in
+    subst (λ x. Keeps s x (map answer_of more) u) (sym f) (subst (λ x. Keeps s (map call_of (take i calls) ++ call_of (get_or calls i d) ∷ []) x u) (sym g) (keeps_one p.wrote k p.step))

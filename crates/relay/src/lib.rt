@@ -5,11 +5,15 @@
 //! that led to the pair which was lent.
 //!
 //! Left out: the rules, and why they keep the promises. In the order a reader meets them: `Call`, `Answer`, `perform`,
-//! `run`, `bring_level`.
+//! `run`, `Way`, `bring_level`.
 #![tactic(auto)]
 
 mod commands;
+mod leveling;
 mod performing;
+mod running;
 
 pub use commands::{Answer, Call};
+pub use leveling::{Way, bring_level};
 pub use performing::perform;
+pub use running::run;
