@@ -1,13 +1,18 @@
 -- Steps of the rules keep the promises.
-use Rattle.std.proofs.Common.{◌≡◌, ℕ, ◌+◌, ◌<◌, List, [], ◌∷◌, ◌++◌, length, map, take, get_or, Option, refl, sym, ap, ◌∙◌, subst, add-one}
+use Rattle.std.proofs.Common.{◌≡◌, ℕ, ◌+◌, ◌<◌, List, [], ◌∷◌, ◌++◌, length, map, take, get_or, Ok, Option, refl, sym, ap, ◌∙◌, subst, add-one}
 use Rattle.std.proofs.Math.Seq.{take-suc}
 use Rattle.std.proofs.lemmas.List.{map-append}
 use Rattle.packet.specs.Values.{Value}
 use Rattle.rules.specs.State.{Pair}
 use Rattle.rules.specs.Rounds.{Call, Answer, Deed, Step}
-use Rattle.promises.specs.Runs.{World, stepped, Run, goes_on, History}
+use Rattle.rules.specs.State as Line
+use Rattle.message_log.specs.Meaning as Log
+use Rattle.rules.specs.SetUp.{Parts, set_up}
+use Rattle.promises.specs.Runs.{World, stepped, Run, begins, goes_on, at_first, History}
 use Rattle.promises.proofs.Keeps.{never_wrong, never_shorter}
 use Rattle.promises.proofs.Tells.{in_step_is_true}
+use Rattle.promises.proofs.Begun.{set_up_begins}
+use Rattle.relay.specs.Scripts.{Scripted}
 use Rattle.relay.specs.Histories.{Played, none, one_more, Promised, Followed, Keeps, Performed}
 
 -- the promises at a point of a run
@@ -45,3 +50,7 @@ keeps_next call_of answer_of {s} {t} {u} calls i d answers more a k l m p =
     ap (λ n. map call_of (take n calls)) (add-one i) ∙ ap (map call_of) (take-suc calls i d l) ∙ map-append call_of (take i calls) (get_or calls i d ∷ []) in
     let g : map answer_of more ≡ map answer_of answers ++ answer_of a ∷ [] = ap (map answer_of) m ∙ map-append answer_of answers (a ∷ []) in
     subst (λ x. Keeps s x (map answer_of more) u) (sym f) (subst (λ x. Keeps s (map call_of (take i calls) ++ call_of (get_or calls i d) ∷ []) x u) (sym g) (keeps_one p.wrote k p.step))
+
+-- what set-up grants has a history of its own
+pub scripted : (g : Parts) (s t : Pair) (calls : List Call) (answers : List Answer) → Log.Sound g.hub_log → Log.Sound g.seat_log → Line.Steady g.up → Line.Steady g.down → set_up g ≡ Ok s → Keeps s calls answers t → Scripted g calls answers t
+scripted g s t calls answers h k u d e keeps = record { start = s; granted = e; followed = keeps s (at_first s) (set_up_begins g s h k u d e, begins) refl }

@@ -1,3 +1,4 @@
 pub mod Calls
 pub mod Histories
 pub mod Levels
+pub mod Scripts

@@ -12,8 +12,10 @@ mod commands;
 mod leveling;
 mod performing;
 mod running;
+mod scripts;
 
 pub use commands::{Answer, Call};
 pub use leveling::{Way, bring_level};
 pub use performing::perform;
 pub use running::run;
+pub use scripts::{Played, play};

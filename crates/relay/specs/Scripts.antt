@@ -1,0 +1,22 @@
+-- Calls on a pair that was set up for them.
+use Rattle.std.specs.Prelude.{◌≡◌, ◌⊎◌, ℕ, List, Ok, Err}
+use Rattle.fault.specs.declared.refusals.Refusal.{Refusal}
+use Rattle.fault.specs.declared.refusals.Refusal.TheVariants.{OutOfMemory}
+use Rattle.line.specs.Lines.{LineView}
+use Rattle.message_log.specs.Meaning.{Meaning}
+use Rattle.account.specs.declared.rows.Row.{Row}
+use Rattle.rules.specs.State.{Pair}
+use Rattle.rules.specs.SetUp.{Parts, set_up}
+use Rattle.rules.specs.Rounds.{Call, Answer}
+use Rattle.promises.specs.Runs.{at_first}
+use Rattle.relay.specs.Histories.{Followed}
+
+-- Set-up granted a pair, and from it these calls, with these answers, have led to this pair.
+pub record Scripted (g : Parts) (calls : List Call) (answers : List Answer) (t : Pair) : Type 0 where
+  pub start : Pair
+  pub granted : set_up g ≡ Ok start
+  pub followed : Followed start (at_first start) calls answers t
+
+-- refused by set-up, or there was no memory for the answers
+abbrev pub Unscripted : Parts → Refusal → Type 0
+Unscripted g refusal = (set_up g ≡ Err refusal) ⊎ (refusal ≡ OutOfMemory)
