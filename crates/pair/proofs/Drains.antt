@@ -41,15 +41,17 @@ hub_step : (s : Pair) (d : Deed) (answer : Result Received Refusal) → lent_sho
 hub_step s _ a f (short_buffer _ e) g = (cc)
 hub_step s _ a f (hub_receives o e r) g = let h : o.answer ≡ a = cc in subst (λ x. HubReceives s (record { answer = x; after = o.after })) h r
 
-pub hub_received : (s t : Pair) (answer : Result Received Refusal) → lent_short HubReceive s ≡ false → HubTakes s answer t → HubReceives s (record { answer = answer; after = t })
-hub_received s t a f h = hub_step s _ a f h refl
+pub hub_received : {s t : Pair} {answer : Result Received Refusal} → HubTakes s answer t → packet_limit ≤ length s.buffers.hub_frame → packet_limit ≤ length s.buffers.out →
+    HubReceives s (record { answer = answer; after = t })
+hub_received {s} {t} {answer} h f o = hub_step s _ answer (both_long s.buffers.hub_frame s.buffers.out f o) h refl
 
 seat_step : (s : Pair) (d : Deed) (answer : Result Received Refusal) → lent_short SeatReceive s ≡ false → Step s SeatReceive d → d.answer ≡ Took answer → SeatReceives s (record { answer = answer; after = d.after })
 seat_step s _ a f (short_buffer _ e) g = (cc)
 seat_step s _ a f (seat_receives o e r) g = let h : o.answer ≡ a = cc in subst (λ x. SeatReceives s (record { answer = x; after = o.after })) h r
 
-pub seat_received : (s t : Pair) (answer : Result Received Refusal) → lent_short SeatReceive s ≡ false → SeatTakes s answer t → SeatReceives s (record { answer = answer; after = t })
-seat_received s t a f h = seat_step s _ a f h refl
+pub seat_received : {s t : Pair} {answer : Result Received Refusal} → SeatTakes s answer t → packet_limit ≤ length s.buffers.seat_frame → packet_limit ≤ length s.buffers.out →
+    SeatReceives s (record { answer = answer; after = t })
+seat_received {s} {t} {answer} h f o = seat_step s _ answer (both_long s.buffers.seat_frame s.buffers.out f o) h refl
 
 -- a send to which no short buffer is lent, granted or refused, leaves the pair as the rule says
 hub_sent_by : (s : Pair) (d : Deed) → lent_short HubSend s ≡ false → Step s HubSend d → d.after ≡ (hub_sends s).after
