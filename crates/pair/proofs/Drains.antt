@@ -85,12 +85,14 @@ pub round_goes : (s heard sent taken t : Pair) (report : Report) (hub : Result (
     Drains HubReceives s report.hub.packets report.hub.fault heard → lent_short HubSend heard ≡ false → HubPuts heard hub sent →
     Drains SeatReceives sent report.seat.packets report.seat.fault taken → lent_short SeatSend taken ≡ false → SeatPuts taken seat t →
     Goes s (Ok report) t
-round_goes s heard sent taken t report hub seat e a e1 b c e2 d =
-    ((hub_sends heard).wrote, rounds report _ t e (record {
-      heard = heard;
-      taken = taken;
-      hub_drains = a;
-      hub_wrote = refl;
-      seat_drains = subst (λ x. Drains SeatReceives x report.seat.packets report.seat.fault taken) (hub_sent heard sent hub e1 b) c;
-      seat_sent = seat_sent taken t seat e2 d;
-    }))
+round_goes s heard sent taken t report hub seat e a e1 b c e2 d = (
+  (hub_sends heard).wrote,
+  rounds report _ t e (record {
+    heard = heard;
+    taken = taken;
+    hub_drains = a;
+    hub_wrote = refl;
+    seat_drains = subst (λ x. Drains SeatReceives x report.seat.packets report.seat.fault taken) (hub_sent heard sent hub e1 b) c;
+    seat_sent = seat_sent taken t seat e2 d;
+  }),
+)

@@ -69,7 +69,7 @@ brought way how s m t answer n i l h j r =
     record {
       keeps = λ o v a e. (k.0, k.1 o v a e);
       level = λ o v a e able.
-      subst (λ x. Able is x → GrantedRounds Step (rounds_needed is x) (connected is x) t → Level x.running.log t) e
-      (λ b q. catches_up o t v is a b q) able
-      (subst (λ x. GrantedRounds Step (rounds_needed is s) x t) (ap (λ (d : Deed). d.after) (connected_by way how s m answer i l h)) rs);
+          subst (λ x. Able is x → GrantedRounds Step (rounds_needed is x) (connected is x) t → Level x.running.log t) e
+          (λ b q. catches_up o t v is a b q) able
+          (subst (λ x. GrantedRounds Step (rounds_needed is s) x t) (ap (λ (d : Deed). d.after) (connected_by way how s m answer i l h)) rs);
     }

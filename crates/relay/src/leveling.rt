@@ -98,9 +98,7 @@ fn go<G: Log, S: Log, U: SteadyLine, D: SteadyLine>(
     ensures rounds { GrantedRounds Step rounds (pair_of pair.old (G.Log.view hub_log.now) (S.Log.view seat_log.old) (U.Line.view up.old) (D.Line.view down.old) hub_frame.old seat_frame.old out.old) (pair_of pair.new (G.Log.view hub_log.now) (S.Log.view seat_log.new) (U.Line.view up.new) (D.Line.view down.new) hub_frame.new seat_frame.new out.new) }
 {
     for _ in 0..rounds {
-        pair.round(
-            hub_log, seat_log, up, down, hub_frame, seat_frame, out,
-        )?;
+        pair.round(hub_log, seat_log, up, down, hub_frame, seat_frame, out)?;
     }
     Ok(())
 }

@@ -1,11 +1,11 @@
 //! The relay: calls on a pair as a program makes them, and the promises, on the calls themselves.
 //!
-//! A program performs calls one at a time (`perform`), or a list of them (`run`), and brings a seat level
+//! A program performs calls one at a time (`perform`) or a list of them (`run`), and brings a seat level
 //! (`bring_level`). Each says that the pair follows the rules, and that the promises hold of it then, for every history
-//! that led to the pair which was lent.
+//! that led to the pair which was lent. A script (`play`) sets its pair up itself, so that its history begins there.
 //!
 //! Left out: the rules, and why they keep the promises. In the order a reader meets them: `Call`, `Answer`, `perform`,
-//! `run`, `Way`, `bring_level`.
+//! `run`, `Played`, `play`, `Way`, `bring_level`.
 #![tactic(auto)]
 
 mod commands;

@@ -19,5 +19,5 @@ loop-call-preserved g c =
       answered = omega arith;
       reserved = omega arith;
       keeps = keeps_next call_of answer_of c.args.calls.now c.loop-call.call-index (C.Connect H.Join) c.loop-call.answers.items c.push_reserved.new.self.items c.perform-answer.result
-      c.loop-call.invariant.keeps c.loop-call-test.true c.push_reserved.ensures.items c.perform-answer.ensures;
+          c.loop-call.invariant.keeps c.loop-call-test.true c.push_reserved.ensures.items c.perform-answer.ensures;
     }

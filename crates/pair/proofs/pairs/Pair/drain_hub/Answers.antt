@@ -28,6 +28,6 @@ loop-fault-preserved g c =
     record {
       count = omega arith;
       ahead = λ seat_log seat_frame.
-      ahead_more HubReceives _ _ _ _ _ (c.loop-fault.invariant.ahead seat_log seat_frame)
-      (hub_received (c.hub_receive.ensures seat_log seat_frame) (omega arith) (omega arith)) (sym c.in-Onward.ensures);
+          ahead_more HubReceives _ _ _ _ _ (c.loop-fault.invariant.ahead seat_log seat_frame)
+          (hub_received (c.hub_receive.ensures seat_log seat_frame) (omega arith) (omega arith)) (sym c.in-Onward.ensures);
     }

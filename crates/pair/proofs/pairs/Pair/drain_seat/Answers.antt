@@ -28,6 +28,6 @@ loop-fault-preserved g c =
     record {
       count = omega arith;
       ahead = λ hub_log hub_frame.
-      ahead_more SeatReceives _ _ _ _ _ (c.loop-fault.invariant.ahead hub_log hub_frame)
-      (seat_received (c.seat_receive.ensures hub_log hub_frame) (omega arith) (omega arith)) (sym c.in-Onward.ensures);
+          ahead_more SeatReceives _ _ _ _ _ (c.loop-fault.invariant.ahead hub_log hub_frame)
+          (seat_received (c.seat_receive.ensures hub_log hub_frame) (omega arith) (omega arith)) (sym c.in-Onward.ensures);
     }
