@@ -41,7 +41,7 @@ pub fn play<G: Log, S: Log, U: SteadyLine, D: SteadyLine>(
     ensures { let parts : Parts = record { hub_log = G.Log.view hub_log.old; seat_log = S.Log.view seat_log.old; up = U.Line.view up.old; down = D.Line.view down.old; rows = accounts.rows; user = user.now; computer = computer.now; protocol = protocol.now; buffers = record { hub_frame = hub_frame.old; seat_frame = seat_frame.old; out = out.old } } in MatchResult result (λ played. Scripted parts (map call_of calls.now) (map answer_of played.answers.items) (pair_of played.pair (G.Log.view hub_log.new) (S.Log.view seat_log.new) (U.Line.view up.new) (D.Line.view down.new) hub_frame.new seat_frame.new out.new)) (λ refusal. Unscripted parts refusal) }
 {
     let mut pair = Pair::set_up(
-        hub_log, seat_log, accounts, user, computer, protocol, hub_frame, seat_frame, out,
+        accounts, user, computer, protocol, hub_log, seat_log, hub_frame, seat_frame, out,
     )?;
     let answers = run(
         heap, &mut pair, calls, hub_log, seat_log, up, down, hub_frame, seat_frame, out,
