@@ -3,7 +3,7 @@ use Rattle.std.proofs.lemmas.Bool.{le-ltb}
 use Rattle.layout.specs.Limits.{packet_limit}
 use Rattle.rules.specs.State.{Pair}
 use Rattle.rules.specs.SetUp.{Parts}
-use Rattle.hub.specs.Ends.{begins}
+use Rattle.hub.specs.Ends.{unfinished}
 use Rattle.pair.proofs.Makings.{sets_up}
 use Rattle.pair.proofs.pairs.Pair.set_up.Goals as goal
 
@@ -18,4 +18,4 @@ returns-in-Ok g c up down =
     let h = c.new-in-Ok.ensures log up down rows hub_frame out in
     sets_up parts c.in-Ok.account _ _ _ _ (le-ltb (length hub_frame) packet_limit (omega arith)) (le-ltb (length seat_frame) packet_limit (omega arith)) (le-ltb (length out) packet_limit (omega arith))
     (sym c.follows.ensures ∙ c.if-not-follows.false) c.new.ensures c.in-Ok.is
-    (ap (λ (x : Pair). x.running) h ∙ ap begins c.start.ensures) (ap (λ (x : Pair). x.hub) h) (c.new-in-Ok-2.ensures seat_frame)
+    (ap (λ (x : Pair). x.running) h ∙ ap unfinished c.start.ensures) (ap (λ (x : Pair). x.hub) h) (c.new-in-Ok-2.ensures seat_frame)
