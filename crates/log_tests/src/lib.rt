@@ -18,17 +18,34 @@ mod tests {
 
     // The same calls on a log that has room for just one message of four bytes.
     fn use_log(rt: &impl Abort, log: &mut AnyLog, long: &[u8]) {
-        let mut buffer = [0u8; 6];
+        begin(rt, log);
+        fill(rt, log, long);
+        read_refused(rt, log);
+        read(rt, log);
+    }
+
+    fn begin(rt: &impl Abort, log: &mut AnyLog) {
         assert_eq!(rt; log.append(b"ABCD"), Err(Refusal::NoSession));
         assert_eq!(rt; log.begin(0), Err(Refusal::SessionZero));
         assert_eq!(rt; log.begin(7), Ok(()));
+    }
+
+    fn fill(rt: &impl Abort, log: &mut AnyLog, long: &[u8]) {
         assert_eq!(rt; log.append(long), Err(Refusal::MessageTooLong));
         assert_eq!(rt; log.would_take(5), Err(Refusal::LogFull));
         assert_eq!(rt; log.append(b"ABCD"), Ok(()));
         assert_eq!(rt; log.append(b""), Err(Refusal::LogFull));
+    }
+
+    fn read_refused(rt: &impl Abort, log: &AnyLog) {
+        let mut buffer = [0u8; 6];
         assert_eq!(rt; log.read(0, &mut buffer), Err(Refusal::NoSuchMessage));
         assert_eq!(rt; log.read(2, &mut buffer), Err(Refusal::NoSuchMessage));
         assert_eq!(rt; log.read(1, &mut buffer[0..3]), Err(Refusal::ShortBuffer));
+    }
+
+    fn read(rt: &impl Abort, log: &AnyLog) {
+        let mut buffer = [0u8; 6];
         assert_eq!(rt; log.read(1, &mut buffer), Ok(4));
         assert_eq!(rt; &buffer, b"ABCD\0\0");
         assert_eq!(rt; log.length_of(1), Ok(4));
