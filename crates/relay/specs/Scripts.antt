@@ -17,6 +17,12 @@ pub record Scripted (g : Parts) (calls : List Call) (answers : List Answer) (t :
   pub granted : set_up g ≡ Ok start
   pub followed : Followed start (at_first start) calls answers t
 
--- refused by set-up, or there was no memory for the answers
-abbrev pub Unscripted : Parts → Refusal → Type 0
-Unscripted g refusal = (set_up g ≡ Err refusal) ⊎ (refusal ≡ OutOfMemory)
+-- the same parts, with this as the hub's log
+abbrev pub with_hub_log : Parts → Meaning → Parts
+with_hub_log g log =
+    record { hub_log = log; seat_log = g.seat_log; up = g.up; down = g.down; rows = g.rows; user = g.user; computer = g.computer; protocol = g.protocol; buffers = g.buffers }
+
+-- Refused by set-up, with nothing changed; or there was no memory for the answers, and set-up has begun the hub's log.
+abbrev pub Unscripted : Parts → Refusal → Parts → Type 0
+Unscripted g refusal left =
+    ((set_up g ≡ Err refusal) × (left ≡ g)) ⊎ ((refusal ≡ OutOfMemory) × ((start : Pair) × (set_up g ≡ Ok start) × (left ≡ with_hub_log g start.running.log)))

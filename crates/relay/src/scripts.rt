@@ -22,7 +22,7 @@ pub struct Played {
 }
 
 /// Sets a pair up, and performs calls on it, granted or refused. The three promises hold of it then. Refuses as set-up
-/// does, and by `OutOfMemory`, with no call made.
+/// does, with nothing changed, and by `OutOfMemory`, with no call made.
 pub fn play<G: Log, S: Log, U: SteadyLine, D: SteadyLine>(
     heap: Global,
     accounts: Accounts,
@@ -38,7 +38,7 @@ pub fn play<G: Log, S: Log, U: SteadyLine, D: SteadyLine>(
     seat_frame: &mut [u8],
     out: &mut [u8],
 ) -> Result<Played, Refusal>
-    ensures { let parts : Parts = record { hub_log = G.Log.view hub_log.old; seat_log = S.Log.view seat_log.old; up = U.Line.view up.old; down = D.Line.view down.old; rows = accounts.rows; user = user.now; computer = computer.now; protocol = protocol.now; buffers = record { hub_frame = hub_frame.old; seat_frame = seat_frame.old; out = out.old } } in MatchResult result (λ played. Scripted parts (map call_of calls.now) (map answer_of played.answers.items) (pair_of played.pair (G.Log.view hub_log.new) (S.Log.view seat_log.new) (U.Line.view up.new) (D.Line.view down.new) hub_frame.new seat_frame.new out.new)) (λ refusal. Unscripted parts refusal) }
+    ensures { let parts : Parts = record { hub_log = G.Log.view hub_log.old; seat_log = S.Log.view seat_log.old; up = U.Line.view up.old; down = D.Line.view down.old; rows = accounts.rows; user = user.now; computer = computer.now; protocol = protocol.now; buffers = record { hub_frame = hub_frame.old; seat_frame = seat_frame.old; out = out.old } } in MatchResult result (λ played. Scripted parts (map call_of calls.now) (map answer_of played.answers.items) (pair_of played.pair (G.Log.view hub_log.new) (S.Log.view seat_log.new) (U.Line.view up.new) (D.Line.view down.new) hub_frame.new seat_frame.new out.new)) (λ refusal. Unscripted parts refusal (record { hub_log = G.Log.view hub_log.new; seat_log = S.Log.view seat_log.new; up = U.Line.view up.new; down = D.Line.view down.new; rows = accounts.rows; user = user.now; computer = computer.now; protocol = protocol.now; buffers = record { hub_frame = hub_frame.new; seat_frame = seat_frame.new; out = out.new } })) }
 {
     let mut pair = Pair::set_up(
         accounts, user, computer, protocol, hub_log, seat_log, hub_frame, seat_frame, out,
