@@ -80,8 +80,8 @@ impl Footing {
         match self.phase {
             HubPhase::Shut | HubPhase::Answering { .. } | HubPhase::Rejecting { .. } => &[],
             HubPhase::Waiting => &WAITING,
-            HubPhase::Serving { asked: 0, .. } => &FETCHED,
-            HubPhase::Serving { .. } | HubPhase::Filling { .. } => &SERVING,
+            HubPhase::Serving { asked: 0, .. } => &SERVING,
+            HubPhase::Serving { .. } | HubPhase::Filling { .. } => &SERVING[..SERVING.len() - 1],
         }
     }
 
@@ -113,15 +113,8 @@ impl Footing {
 
 const WAITING: [Letter; 1] = [Letter::LoginRequest];
 
-const SERVING: [Letter; 4] = [
-    Letter::Unsequenced,
-    Letter::LogoutRequest,
-    Letter::SeatHeartbeat,
-    Letter::Test,
-];
-
-// Where the login asked for no message, a retransmission may be asked for.
-const FETCHED: [Letter; 5] = [
+// The retransmission request stands last: it is taken only where the login asked for no message.
+const SERVING: [Letter; 5] = [
     Letter::Unsequenced,
     Letter::LogoutRequest,
     Letter::SeatHeartbeat,
