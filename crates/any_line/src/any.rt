@@ -9,6 +9,7 @@ ghost use Rattle.straight.specs.contracts.straights.StraightSteadyLine.TheImpl.L
 use fault::Refusal;
 use line::{Line, SteadyLine};
 use paced::Paced;
+use peek::PeekLine;
 use ring::Ring;
 use straight::Straight;
 
@@ -72,4 +73,10 @@ impl SteadyLine for AnyLine {
       | K.PacedRing s ↦ steady_ring.within-law s.line
       | K.PacedStraight s ↦ steady_straight.within-law s.line
     ] };
+}
+
+impl PeekLine for AnyLine {
+    fn peek(&self) -> (&[u8], &[u8]) {
+        at_each!(self, line => line.peek())
+    }
 }

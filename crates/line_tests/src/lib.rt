@@ -1,5 +1,7 @@
-//! Tests of the lines on examples: wraps, room that comes back late, nested layers, refusals, transfers.
+//! Tests of the lines on examples: wraps, room that comes back late, nested layers, refusals, transfers, what is shown.
 #![tactic(auto)]
+
+ghost use Rattle.std.specs.Prelude.{◌≡◌, IfOk};
 
 #[cfg(test)]
 mod tests {
@@ -7,8 +9,9 @@ mod tests {
     use fault::{Refusal, Unmade};
     use line::{Line, SMALLEST_SIZE, transfer};
     use paced::Paced;
+    use peek::PeekLine;
     use ring::Ring;
-    use std::alloc::Global;
+    use std::alloc::{AllocError, Global};
     use std::test::Fail;
     use straight::Straight;
 
@@ -22,13 +25,29 @@ mod tests {
         Ok(new(vec![in heap; 0u8; SMALLEST_SIZE]?)?)
     }
 
+    /// A ring on which `hello` waits, its first two bytes at the last places and the others at the first.
+    fn wrapped(heap: Global) -> Result<Ring, Refusal> {
+        let mut line = smallest(heap, Ring::new)?;
+        let mut buffer = vec![in heap; 0u8; SMALLEST_SIZE - 2]?;
+        line.put(buffer.as_slice())?;
+        line.take(buffer.as_mut_slice());
+        line.put(b"hello")?;
+        Ok(line)
+    }
+
+    /// What a line shows, in one piece.
+    fn shown<L: PeekLine>(heap: Global, line: &L) -> Result<Vec<u8>, AllocError>
+        ensures { IfOk result (λ v. v.items ≡ (L.Line.view line.now).waiting) }
+    {
+        let (front, back) = line.peek();
+        let mut all = front.to_vec(heap)?;
+        all.extend_from_slice(back)?;
+        Ok(all)
+    }
+
     #[test]
     fn ring_wraps(rt: HostRuntime) -> Result<(), Fail> {
-        let mut line = smallest(rt.alloc(), Ring::new)?;
-        let mut buffer = vec![in rt.alloc(); 0u8; 4105]?;
-        line.put(buffer.as_slice())?;
-        assert_eq!(rt; line.take(buffer.as_mut_slice()), 4105);
-        line.put(b"hello")?;
+        let mut line = wrapped(rt.alloc())?;
         assert_eq!(rt; line.room(), SMALLEST_SIZE - 5);
         let mut out = [b'-'; 6];
         assert_eq!(rt; line.take(&mut out), 5);
@@ -95,6 +114,38 @@ mod tests {
             return Err(Fail::new("moved"));
         };
         assert_eq!(rt; refusal.number(), 14);
+        Ok(())
+    }
+
+    #[test]
+    fn ring_shows_round_the_end(rt: HostRuntime) -> Result<(), Fail> {
+        let line = wrapped(rt.alloc())?;
+        let (front, back) = line.peek();
+        assert!(rt; front == b"he".as_slice());
+        assert!(rt; back == b"llo".as_slice());
+        Ok(())
+    }
+
+    #[test]
+    fn layer_shows_all_that_waits(rt: HostRuntime) -> Result<(), Fail> {
+        let Ok(paced) = Paced::new(smallest(rt.alloc(), Straight::new)?, 1) else {
+            return Err(Fail::new("paced"));
+        };
+        let mut line = AnyLine::PacedStraight(paced);
+        line.put(b"hello")?;
+        line.take(&mut [0u8; 9]);
+        assert!(rt; shown(rt.alloc(), &line)?.as_slice() == b"ello".as_slice());
+        Ok(())
+    }
+
+    #[test]
+    fn peek_changes_nothing(rt: HostRuntime) -> Result<(), Fail> {
+        let mut line = wrapped(rt.alloc())?;
+        let first = shown(rt.alloc(), &line)?;
+        assert!(rt; shown(rt.alloc(), &line)?.as_slice() == first.as_slice());
+        let mut out = [b'-'; 6];
+        line.take(&mut out);
+        assert!(rt; &out[..] == b"hello-".as_slice());
         Ok(())
     }
 }

@@ -2,7 +2,8 @@
 //!
 //! It holds any line by value and is itself a line, so it also goes over another pacing layer. Its meaning is
 //! that of the line under it, but for the hand-out limit: the smaller of that line's limit and the layer's own
-//! number. That is shown from the meaning of the line under it alone.
+//! number. That is shown from the meaning of the line under it alone. The number limits takes and nothing else:
+//! the layer shows all that waits, as the line under it shows it.
 //!
 //! The type: `Paced`, which is a line.
 #![tactic(auto)]

@@ -7,6 +7,7 @@ ghost use Rattle.paced.specs.Views.{paced_sound};
 
 use fault::{Refusal, Unmade, allow};
 use line::{Line, SteadyLine, is_piece_length};
+use peek::PeekLine;
 
 /// A line over another, with a hand-out limit of its own.
 #[derive(Drop)]
@@ -56,4 +57,10 @@ impl<L: Line> Line for Paced<L> {
 
 impl<L: SteadyLine> SteadyLine for Paced<L> {
     ghost within = { λ s. L.SteadyLine.within s.line };
+}
+
+impl<L: PeekLine> PeekLine for Paced<L> {
+    fn peek(&self) -> (&[u8], &[u8]) {
+        self.line.peek()
+    }
 }

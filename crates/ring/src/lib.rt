@@ -10,8 +10,8 @@
 //! ```
 //!
 //! The room is the size less what waits, and the hand-out limit is the longest packet. A put and a take each
-//! copy at most two parts. Left out: the meaning of a line, which is in the crate `line`.
-//! The type: `Ring`, which is a line.
+//! copy at most two parts; what waits is shown in two, with no copy. Left out: the meaning of a line, which is in
+//! the crate `line`. The type: `Ring`, which is a line.
 #![tactic(auto)]
 
 mod places;

@@ -1,7 +1,7 @@
-//! Copies to and from the places of a ring, each in at most two parts.
+//! Copies to and from the places of a ring, and a look at them, each in at most two parts.
 // What does not go round the end is one copy: a second one, of no byte, was tried, and halved the speed of pieces
 // of 64 bytes.
-ghost use Rattle.std.specs.Prelude.{◌≡◌, ◌<◌, ◌≤◌, length};
+ghost use Rattle.std.specs.Prelude.{◌≡◌, ◌<◌, ◌≤◌, ◌++◌, length};
 ghost use Rattle.line.specs.Sizes.{largest_size};
 ghost use Rattle.ring.specs.Rings.{Onward, LaidRound, ringed};
 
@@ -42,5 +42,18 @@ pub(crate) fn read_round(places: &[u8], at: usize, out: &mut [u8])
         let (front, back) = out.split_at_mut(ahead);
         front.copy_from_slice(&places[at..]);
         back.copy_from_slice(&places[..back.len()]);
+    }
+}
+
+/// Lends so many places from `at` on, round the end: those up to the last place, and those from the first one on.
+pub(crate) fn lend_round(places: &[u8], at: usize, count: usize) -> (&[u8], &[u8])
+    requires { (at < length places.now) × (count ≤ length places.now) }
+    ensures { result.0.now ++ result.1.now ≡ ringed places.now at count }
+{
+    let ahead = places.len() - at;
+    if count <= ahead {
+        (&places[at..at + count], &[])
+    } else {
+        (&places[at..], &places[..count - ahead])
     }
 }

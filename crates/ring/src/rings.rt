@@ -9,10 +9,11 @@ ghost use Rattle.layout.specs.Limits.{packet_limit};
 ghost use Rattle.ring.specs.Rings.{InRing, ring_view};
 ghost use Rattle.ring.specs.Views.{ring_sound};
 
-use crate::places::{lay_round, onward, read_round};
+use crate::places::{lay_round, lend_round, onward, read_round};
 use fault::{Refusal, Unmade, allow};
 use layout::PACKET_LIMIT;
 use line::{Line, SteadyLine, is_line_size};
+use peek::PeekLine;
 
 /// A line whose memory is used round and round.
 // No `VecDeque`: the memory is given once, of a size that is chosen at run time, and no put may ask for more.
@@ -77,4 +78,10 @@ impl Line for Ring {
 
 impl SteadyLine for Ring {
     ghost within = { λ s. sub-le s.bytes.len s.count };
+}
+
+impl PeekLine for Ring {
+    fn peek(&self) -> (&[u8], &[u8]) {
+        lend_round(self.bytes.as_slice(), self.start, self.count)
+    }
 }

@@ -8,8 +8,8 @@
 //!           [ gone  | waiting   | room            ]
 //! ```
 //!
-//! The hand-out limit is 1: a take hands over one byte. Left out: the meaning of a line, which is in the crate
-//! `line`. The type: `Straight`, which is a line.
+//! The hand-out limit is 1: a take hands over one byte. What waits lies in one piece, and is shown so. Left out:
+//! the meaning of a line, which is in the crate `line`. The type: `Straight`, which is a line.
 #![tactic(auto)]
 
 pub mod straights;

@@ -11,6 +11,7 @@ ghost use Rattle.straight.specs.Views.{straight_sound};
 use fault::{Refusal, Unmade, allow};
 use line::{Line, SteadyLine, is_line_size};
 use memory::lay;
+use peek::PeekLine;
 
 /// A line whose memory is used from the front, and anew once nothing waits.
 // No `VecDeque`: the memory is given once, and it is free again only when nothing waits.
@@ -79,4 +80,10 @@ impl Line for Straight {
 
 impl SteadyLine for Straight {
     ghost within = { λ s. sub-le s.bytes.len s.end };
+}
+
+impl PeekLine for Straight {
+    fn peek(&self) -> (&[u8], &[u8]) {
+        (&self.bytes[self.start..self.end], &[])
+    }
 }
