@@ -1,0 +1,2 @@
+pub mod Makings
+pub mod Strangers

@@ -1,0 +1,157 @@
+//! The parts of a pair, as they are made one by one.
+ghost use Rattle.std.specs.Prelude.{MatchResult};
+ghost use Rattle.playing.specs.Makings.{Makes, Left};
+
+use crate::forms::{End, Part, Side, Texts};
+use crate::making::{line_of, log_of};
+use crate::wholes::Whole;
+use account::Accounts;
+use any_line::AnyLine;
+use any_log::AnyLog;
+use fault::Refusal;
+use layout::PACKET_LIMIT;
+use std::alloc::{AllocError, Global};
+use tapped::Tapped;
+
+/// The three texts by which the seat logs in, as they were given.
+#[derive(Drop)]
+pub struct Credentials {
+    pub user: Vec<u8>,
+    pub computer: Vec<u8>,
+    pub protocol: Vec<u8>,
+}
+
+impl Credentials {
+    fn of(heap: Global, texts: Texts<'_>) -> Result<Credentials, AllocError> {
+        Ok(Credentials {
+            user: texts.user.to_vec(heap)?,
+            computer: texts.computer.to_vec(heap)?,
+            protocol: texts.protocol.to_vec(heap)?,
+        })
+    }
+}
+
+/// The buffers that a pair's calls are lent.
+#[derive(Drop)]
+pub struct Buffers {
+    pub hub_frame: Vec<u8>,
+    pub seat_frame: Vec<u8>,
+    pub out: Vec<u8>,
+}
+
+impl Buffers {
+    /// Buffers of these lengths, of zeros.
+    fn of(heap: Global, hub: usize, seat: usize, out: usize) -> Result<Buffers, AllocError> {
+        Ok(Buffers {
+            hub_frame: vec![in heap; 0; hub]?,
+            seat_frame: vec![in heap; 0; seat]?,
+            out: vec![in heap; 0; out]?,
+        })
+    }
+}
+
+/// The parts of a pair, as far as they are made.
+#[derive(Drop)]
+pub struct Parts {
+    pub hub_log: Option<AnyLog>,
+    pub seat_log: Option<AnyLog>,
+    pub up: Option<Tapped<AnyLine>>,
+    pub down: Option<Tapped<AnyLine>>,
+    pub accounts: Accounts,
+    pub seat: Option<Credentials>,
+    pub buffers: Buffers,
+}
+
+impl Parts {
+    /// No part but an empty account table, and buffers that are long enough.
+    pub fn new(heap: Global) -> Result<Parts, AllocError> {
+        Ok(Parts {
+            buffers: Buffers::of(heap, PACKET_LIMIT, PACKET_LIMIT, PACKET_LIMIT)?,
+            ..Parts::none(heap)
+        })
+    }
+
+    /// No part but an empty account table, and buffers without a byte.
+    pub fn none(heap: Global) -> Parts {
+        Parts {
+            hub_log: None,
+            seat_log: None,
+            up: None,
+            down: None,
+            accounts: Accounts::new(),
+            seat: None,
+            buffers: Buffers {
+                hub_frame: Vec::new(heap),
+                seat_frame: Vec::new(heap),
+                out: Vec::new(heap),
+            },
+        }
+    }
+
+    /// Makes a part, in place of one that was made before. Where it is refused, the parts stay as they are.
+    pub fn make(&mut self, heap: Global, part: Part<'_>) -> Result<(), Refusal>
+        ensures { MatchResult result (λ _. Makes part.entry self.old self.new) (λ _. Left self.old self.new) }
+    {
+        match part {
+            Part::Log(End::Hub, form) => self.hub_log = Some(log_of(heap, form)?),
+            Part::Log(End::Seat, form) => self.seat_log = Some(log_of(heap, form)?),
+            Part::Line(Side::Up, form) => self.up = Some(Tapped::new(line_of(heap, form)?)),
+            Part::Line(Side::Down, form) => self.down = Some(Tapped::new(line_of(heap, form)?)),
+            Part::Account(texts) => {
+                let _row = self
+                    .accounts
+                    .add(texts.user, texts.computer, texts.protocol)?;
+            }
+            Part::Seat(texts) => self.seat = Some(Credentials::of(heap, texts)?),
+            Part::Buffers { hub, seat, out } => self.buffers = Buffers::of(heap, hub, seat, out)?,
+        }
+        Ok(())
+    }
+
+    /// All parts of a pair, or these parts where one is missing.
+    pub fn whole(self) -> Result<Whole, Parts> {
+        let Parts {
+            hub_log,
+            seat_log,
+            up,
+            down,
+            accounts,
+            seat,
+            buffers,
+        } = self;
+        match (hub_log, seat_log, up, down, seat) {
+            (Some(hub_log), Some(seat_log), Some(up), Some(down), Some(seat)) => Ok(Whole {
+                hub_log,
+                seat_log,
+                up,
+                down,
+                accounts,
+                seat,
+                buffers,
+            }),
+            (hub_log, seat_log, up, down, seat) => Err(Parts {
+                hub_log,
+                seat_log,
+                up,
+                down,
+                accounts,
+                seat,
+                buffers,
+            }),
+        }
+    }
+}
+
+impl From<Whole> for Parts {
+    fn from(whole: Whole) -> Parts {
+        Parts {
+            hub_log: Some(whole.hub_log),
+            seat_log: Some(whole.seat_log),
+            up: Some(whole.up),
+            down: Some(whole.down),
+            accounts: whole.accounts,
+            seat: Some(whole.seat),
+            buffers: whole.buffers,
+        }
+    }
+}

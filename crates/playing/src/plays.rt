@@ -1,0 +1,84 @@
+//! A pair with its parts, and what is done to it.
+ghost use Rattle.relay.specs.Calls.{call_of, answer_of};
+ghost use Rattle.relay.specs.Histories.{Performed};
+ghost use Rattle.relay.specs.Levels.{how_of, Brings};
+ghost use Rattle.playing.specs.Strangers.{Meddles};
+
+use crate::forms::Side;
+use crate::parts::Buffers;
+use any_line::AnyLine;
+use any_log::AnyLog;
+use fault::Refusal;
+use line::Line;
+use message_log::Log;
+use pair::Pair;
+use relay::{Answer, Call, Way, bring_level, perform};
+use std::marker::Model;
+use tapped::Tapped;
+
+/// A pair, and all that its calls are lent.
+#[derive(Drop)]
+pub struct Play {
+    pub pair: Pair,
+    pub hub_log: AnyLog,
+    pub seat_log: AnyLog,
+    pub up: Tapped<AnyLine>,
+    pub down: Tapped<AnyLine>,
+    pub buffers: Buffers,
+}
+
+/// A play means what its pair means with all that it is lent.
+impl Model for Play {
+    ghost use Rattle.rules.specs.State as State;
+    ghost use Rattle.pair.specs.Meanings.{pair_of};
+
+    ghost Value = { State.Pair };
+
+    ghost view = { λ p. pair_of p.pair (⟦<AnyLog as Log>⟧.view p.hub_log) (⟦<AnyLog as Log>⟧.view p.seat_log) (⟦<Tapped<AnyLine> as Line>⟧.view p.up) (⟦<Tapped<AnyLine> as Line>⟧.view p.down) p.buffers.hub_frame.items p.buffers.seat_frame.items p.buffers.out.items };
+}
+
+impl Play {
+    /// Performs a call: a step of the rules, after which the promises hold as before.
+    pub fn call(&mut self, call: Call<'_>) -> Answer
+        ensures { Performed self.old (call_of call.entry) (answer_of result) self.new }
+    {
+        perform(
+            &mut self.pair,
+            call,
+            &mut self.hub_log,
+            &mut self.seat_log,
+            &mut self.up,
+            &mut self.down,
+            &mut self.buffers.hub_frame,
+            &mut self.buffers.seat_frame,
+            &mut self.buffers.out,
+        )
+    }
+
+    /// Brings the seat level with the hub: a connect, and as many rounds as that takes.
+    pub fn level(&mut self, way: Way) -> Result<(), Refusal>
+        ensures { Brings (how_of way) self.old result self.new }
+    {
+        bring_level(
+            &mut self.pair,
+            way,
+            &self.hub_log,
+            &mut self.seat_log,
+            &mut self.up,
+            &mut self.down,
+            &mut self.buffers.hub_frame,
+            &mut self.buffers.seat_frame,
+            &mut self.buffers.out,
+        )
+    }
+
+    /// Puts a stranger's bytes on a line. Nothing else changes; they are counted as nobody's packets.
+    pub fn meddle(&mut self, side: Side, bytes: &[u8]) -> Result<(), Refusal>
+        ensures { Meddles side bytes.now self.old result self.new }
+    {
+        match side {
+            Side::Up => self.up.put_past(bytes),
+            Side::Down => self.down.put_past(bytes),
+        }
+    }
+}

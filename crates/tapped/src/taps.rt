@@ -1,0 +1,95 @@
+//! The layer, and how it is a line.
+ghost use Rattle.std.specs.Prelude.{◌≡◌, replicate};
+ghost use Rattle.line.specs.Lines.{Put};
+ghost use Rattle.tapped.specs.Taps.{counted, letter_in};
+
+use capture::Tally;
+use fault::Refusal;
+use layout::Letter;
+use line::{Line, SteadyLine};
+use peek::PeekLine;
+
+/// A line over another, and how many packets were put on it, by letter.
+#[derive(Drop)]
+pub struct Tapped<L> {
+    line: L,
+    tally: Tally,
+}
+
+// The letter of a packet, if it has one that is known.
+fn letter_in(packet: &[u8]) -> Option<Letter>
+    ensures { result ≡ letter_in packet.now }
+{
+    Letter::try_from(*packet.get(2)?).ok()
+}
+
+impl<L: Line> Tapped<L> {
+    /// The layer over a line on which nothing was counted yet.
+    pub fn new(line: L) -> Tapped<L>
+        ensures line { result.line ≡ line }
+        ensures tally { result.tally ≡ replicate 12 0 }
+    {
+        Tapped {
+            line,
+            tally: Tally::new(),
+        }
+    }
+
+    /// How many packets were put, by letter.
+    pub fn tally(&self) -> &Tally
+        ensures { result.now ≡ self.now.tally }
+    {
+        &self.tally
+    }
+
+    /// Puts a piece that is not counted.
+    pub fn put_past(&mut self, piece: &[u8]) -> Result<(), Refusal>
+        ensures put { Put (L.Line.view self.old.line) piece.now result (L.Line.view self.new.line) }
+        ensures same { self.new.tally ≡ self.old.tally }
+    {
+        self.line.put(piece)
+    }
+}
+
+impl<L: Line> Line for Tapped<L> {
+    ghost view = { λ s. L.Line.view s.line };
+
+    ghost sound = { λ s. L.Line.sound s.line };
+
+    fn waiting(&self) -> usize {
+        self.line.waiting()
+    }
+
+    fn room(&self) -> usize {
+        self.line.room()
+    }
+
+    fn put(&mut self, piece: &[u8]) -> Result<(), Refusal>
+        ensures put { Put (L.Line.view self.old.line) piece.now result (L.Line.view self.new.line) }
+        ensures counted { self.new.tally ≡ counted (L.Line.view self.old.line) piece.now self.old.tally }
+    {
+        self.line.put(piece)?;
+        if let Some(letter) = letter_in(piece) {
+            self.tally.note(letter);
+        }
+        Ok(())
+    }
+
+    fn take(&mut self, buffer: &mut [u8]) -> usize {
+        self.line.take(buffer)
+    }
+
+    fn clear(&mut self) {
+        self.line.clear();
+    }
+}
+
+impl<L: SteadyLine> SteadyLine for Tapped<L> {
+    ghost within = { λ s. L.SteadyLine.within s.line };
+}
+
+impl<L: PeekLine> PeekLine for Tapped<L> {
+    fn peek(&self) -> (&[u8], &[u8]) {
+        self.line.peek()
+    }
+}
