@@ -1,0 +1,37 @@
+//! Names of phases, and letters as they are printed.
+use layout::{Letter, Status};
+use rules::{HubPhase, SeatPhase};
+
+/// The letter as it is printed.
+pub fn letter_of(letter: Letter) -> char {
+    char::from(u8::from(letter))
+}
+
+/// The letter of a status that was kept, `-` for none.
+pub fn status_of(status: Option<Status>) -> char {
+    match status {
+        Some(status) => char::from(u8::from(status)),
+        None => '-',
+    }
+}
+
+/// The name of a hub's phase.
+pub fn hub_phase(phase: HubPhase) -> &'static str {
+    match phase {
+        HubPhase::Shut => "Shut",
+        HubPhase::Waiting => "Waiting",
+        HubPhase::Answering { .. } => "Answering",
+        HubPhase::Rejecting { .. } => "Rejecting",
+        HubPhase::Serving { .. } => "Serving",
+        HubPhase::Filling { .. } => "Filling",
+    }
+}
+
+/// The name of a seat's phase.
+pub fn seat_phase(phase: SeatPhase) -> &'static str {
+    match phase {
+        SeatPhase::Apart => "Apart",
+        SeatPhase::Asking => "Asking",
+        SeatPhase::Live => "Live",
+    }
+}

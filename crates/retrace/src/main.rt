@@ -1,0 +1,42 @@
+//! `retrace FILE..`: performs the commands of saved traces again, and tells each answer that is another one now.
+#![tactic(auto)]
+
+use rehearsing::{NoShelf, Retraced, retrace};
+use std::io::{BufReader, BufWriter, Write};
+use std::{env, fs, io};
+
+// What became of a trace, in a line.
+fn show_retraced<W: Write>(out: &mut W, path: &str, retraced: Retraced) -> io::Result<()> {
+    let answers = retraced.answers;
+    match retraced.others {
+        0 => writeln!(out, "{path}: {answers} answers, all as they were"),
+        others => writeln!(
+            out,
+            "{path}: {answers} answers, {others} of them others now"
+        ),
+    }
+}
+
+/// Compares each trace that is named on the command line.
+fn run(rt: &HostRuntime) -> io::Result<()> {
+    let mut out = BufWriter::new(rt.alloc(), rt.stdout())?;
+    let mut paths = env::args(rt)?.skip(1).peekable();
+    if paths.peek().is_none() {
+        writeln!(out, "usage: retrace FILE..")?;
+    }
+    for path in paths {
+        match fs::open(rt, path.as_str()) {
+            Ok(file) => {
+                let input = BufReader::new(rt.alloc(), file)?;
+                let retraced = retrace(rt.alloc(), input, &mut out, &mut NoShelf)?;
+                show_retraced(&mut out, path.as_str(), retraced)?;
+            }
+            Err(why) => writeln!(out, "{path}: {why}")?,
+        }
+    }
+    out.flush()
+}
+
+fn main(rt: HostRuntime) -> anyhow::Result<()> {
+    Ok(run(&rt)?)
+}
