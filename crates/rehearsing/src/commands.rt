@@ -7,7 +7,7 @@ use relay::{Call, Way};
 pub enum Deed<'a> {
     Call(Call<'a>),
     /// So many ticks.
-    Ticks(u32),
+    Ticks(u64),
     /// The seat is brought level with the hub.
     Level(Way),
     /// A stranger's bytes on a line.

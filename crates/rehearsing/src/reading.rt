@@ -1,4 +1,7 @@
 //! From a line to the command that it asks for.
+ghost use Rattle.std.specs.Prelude.{ℕ, IfOk, IfErr, IfSome};
+ghost use Rattle.rehearsing.specs.Lines.{Hexadecimal, Numeral, NumeralUpTo, longest_buffer, most_ticks, LogWords, LineWords, TextWords, PartLine, EndWord, QuestionLine, CallLine, DeedLine, CommandLine};
+
 use crate::commands::{Command, Deed, Question};
 use crate::troubles::Malformed;
 use hex::FromHexError;
@@ -6,10 +9,9 @@ use playing::{End, LineForm, LogForm, Part, Side, Texts};
 use relay::{Call, Way};
 use rules::How;
 use std::alloc::{AllocError, Global};
-use std::str::FromStr;
 
 /// The most ticks that one line asks for.
-const MOST_TICKS: u32 = 1_000_000;
+const MOST_TICKS: u64 = 1_000_000;
 
 /// The longest buffer that a line asks for.
 const LONGEST_BUFFER: usize = 16_777_216;
@@ -31,15 +33,12 @@ impl<'a> Words<'a> {
         };
         Ok(Words { words, bytes })
     }
-
-    /// The command that they ask for.
-    pub fn command(&self) -> Result<Command<'_>, Malformed> {
-        command_of(self.words.as_slice(), self.bytes.as_deref())
-    }
 }
 
 // The bytes that a word writes in pairs of hexadecimal digits, `-` for none.
-fn bytes_of(heap: Global, word: &str) -> Result<Option<Vec<u8>>, AllocError> {
+fn bytes_of(heap: Global, word: &str) -> Result<Option<Vec<u8>>, AllocError>
+    ensures { IfOk result (λ bytes. IfSome bytes (λ v. Hexadecimal word.now v.items)) }
+{
     if word == "-" {
         return Ok(Some(Vec::new(heap)));
     }
@@ -59,14 +58,21 @@ pub fn is_passed_over(words: &[&str]) -> bool {
 }
 
 /// The command of these words, of which the second may write bytes.
-pub fn command_of<'a>(
-    words: &[&'a str],
-    bytes: Option<&'a [u8]>,
-) -> Result<Command<'a>, Malformed> {
+pub fn command_of<'a>(words: &[&'a str], bytes: Option<&'a [u8]>) -> Result<Command<'a>, Malformed>
+    ensures { IfOk result (λ command. CommandLine words.now bytes.entry command) }
+{
     match words {
         ["setup"] => Ok(Command::SetUp),
-        ["hub-log", "open", bytes, file] => open_of(End::Hub, bytes, file),
-        ["seat-log", "open", bytes, file] => open_of(End::Seat, bytes, file),
+        ["hub-log", "open", bytes, file] => Ok(Command::Open {
+            end: End::Hub,
+            bytes: size_of(bytes)?,
+            file,
+        }),
+        ["seat-log", "open", bytes, file] => Ok(Command::Open {
+            end: End::Seat,
+            bytes: size_of(bytes)?,
+            file,
+        }),
         [
             "hub-log" | "seat-log" | "up" | "down" | "account" | "seat" | "buffers",
             ..
@@ -78,22 +84,23 @@ pub fn command_of<'a>(
     }
 }
 
-fn number_of<N: FromStr>(word: &str) -> Result<N, Malformed>
-where
-    N::Err: Drop,
+fn number_of(word: &str) -> Result<u64, Malformed>
+    ensures is { IfOk result (λ n. Numeral word.now n) }
+    ensures no_other { IfErr result (λ _. (n : ℕ) → Numeral word.now n → ⊥) }
 {
     word.parse().map_err(|_| Malformed::NoNumber)
 }
 
-fn open_of<'a>(end: End, bytes: &str, file: &'a str) -> Result<Command<'a>, Malformed> {
-    Ok(Command::Open {
-        end,
-        bytes: number_of(bytes)?,
-        file,
-    })
+fn size_of(word: &str) -> Result<usize, Malformed>
+    ensures is { IfOk result (λ n. Numeral word.now n) }
+    ensures no_other { IfErr result (λ _. (n : ℕ) → Numeral word.now n → ⊥) }
+{
+    word.parse().map_err(|_| Malformed::NoNumber)
 }
 
-fn part_of<'a>(words: &[&'a str]) -> Result<Part<'a>, Malformed> {
+fn part_of<'a>(words: &[&'a str]) -> Result<Part<'a>, Malformed>
+    ensures { IfOk result (λ part. PartLine words.now part) }
+{
     match words {
         ["hub-log", form @ ..] => Ok(Part::Log(End::Hub, log_form(form)?)),
         ["seat-log", form @ ..] => Ok(Part::Log(End::Seat, log_form(form)?)),
@@ -110,40 +117,49 @@ fn part_of<'a>(words: &[&'a str]) -> Result<Part<'a>, Malformed> {
     }
 }
 
-fn log_form(words: &[&str]) -> Result<LogForm<'static>, Malformed> {
+fn log_form(words: &[&str]) -> Result<LogForm<'static>, Malformed>
+    ensures is { IfOk result (λ form. LogWords words.now form) }
+    ensures no_other { IfErr result (λ _. (form : LogForm) → LogWords words.now form → ⊥) }
+{
     match words {
         ["journal", bytes] => Ok(LogForm::Journal {
-            bytes: number_of(bytes)?,
+            bytes: size_of(bytes)?,
         }),
         ["indexed", pool, table] => Ok(LogForm::Indexed {
-            pool: number_of(pool)?,
-            table: number_of(table)?,
+            pool: size_of(pool)?,
+            table: size_of(table)?,
         }),
         _ => Err(Malformed::NoCommand),
     }
 }
 
-fn line_form(words: &[&str]) -> Result<LineForm, Malformed> {
+fn line_form(words: &[&str]) -> Result<LineForm, Malformed>
+    ensures is { IfOk result (λ form. LineWords words.now form) }
+    ensures no_other { IfErr result (λ _. (form : LineForm) → LineWords words.now form → ⊥) }
+{
     match words {
         ["ring", size] => Ok(LineForm::Ring {
-            size: number_of(size)?,
+            size: size_of(size)?,
         }),
         ["straight", size] => Ok(LineForm::Straight {
-            size: number_of(size)?,
+            size: size_of(size)?,
         }),
         ["paced", pace, "ring", size] => Ok(LineForm::PacedRing {
-            pace: number_of(pace)?,
-            size: number_of(size)?,
+            pace: size_of(pace)?,
+            size: size_of(size)?,
         }),
         ["paced", pace, "straight", size] => Ok(LineForm::PacedStraight {
-            pace: number_of(pace)?,
-            size: number_of(size)?,
+            pace: size_of(pace)?,
+            size: size_of(size)?,
         }),
         _ => Err(Malformed::NoCommand),
     }
 }
 
-fn texts_of<'a>(words: &[&'a str]) -> Result<Texts<'a>, Malformed> {
+fn texts_of<'a>(words: &[&'a str]) -> Result<Texts<'a>, Malformed>
+    ensures is { IfOk result (λ texts. TextWords words.now texts) }
+    ensures no_other { IfErr result (λ _. (texts : Texts) → TextWords words.now texts → ⊥) }
+{
     let [user, computer, protocol] = words else {
         return Err(Malformed::NoCommand);
     };
@@ -155,26 +171,35 @@ fn texts_of<'a>(words: &[&'a str]) -> Result<Texts<'a>, Malformed> {
 }
 
 // The length of a buffer.
-fn length_of(word: &str) -> Result<usize, Malformed> {
-    let length = number_of(word)?;
+fn length_of(word: &str) -> Result<usize, Malformed>
+    ensures is { IfOk result (λ n. NumeralUpTo longest_buffer word.now n) }
+    ensures no_other { IfErr result (λ _. (n : ℕ) → NumeralUpTo longest_buffer word.now n → ⊥) }
+{
+    let length = size_of(word)?;
     if length > LONGEST_BUFFER {
         return Err(Malformed::NoNumber);
     }
     Ok(length)
 }
 
-fn question_of<'a>(words: &[&'a str]) -> Result<Question<'a>, Malformed> {
+fn question_of<'a>(words: &[&'a str]) -> Result<Question<'a>, Malformed>
+    ensures is { IfOk result (λ question. QuestionLine words.now question) }
+    ensures no_other { IfErr result (λ _. (question : Question) → QuestionLine words.now question → ⊥) }
+{
     match words {
         ["show"] => Ok(Question::Pair),
         ["wire"] => Ok(Question::Wire),
         ["log", end] => Ok(Question::Log(end_of(end)?)),
-        ["out", count] => Ok(Question::Out(number_of(count)?)),
+        ["out", count] => Ok(Question::Out(size_of(count)?)),
         ["save", end, file] => Ok(Question::Save(end_of(end)?, file)),
         _ => Err(Malformed::NoCommand),
     }
 }
 
-fn end_of(word: &str) -> Result<End, Malformed> {
+fn end_of(word: &str) -> Result<End, Malformed>
+    ensures is { IfOk result (λ end. EndWord word.now end) }
+    ensures no_other { IfErr result (λ _. (end : End) → EndWord word.now end → ⊥) }
+{
     match word {
         "hub" => Ok(End::Hub),
         "seat" => Ok(End::Seat),
@@ -182,22 +207,26 @@ fn end_of(word: &str) -> Result<End, Malformed> {
     }
 }
 
-fn deed_of<'a>(words: &[&'a str], bytes: Option<&'a [u8]>) -> Result<Deed<'a>, Malformed> {
+fn deed_of<'a>(words: &[&'a str], bytes: Option<&'a [u8]>) -> Result<Deed<'a>, Malformed>
+    ensures { IfOk result (λ deed. DeedLine words.now bytes.entry deed) }
+{
     match words {
         ["tick", count] => Ok(Deed::Ticks(ticks_of(count)?)),
         ["level", "join"] => Ok(Deed::Level(Way::Join)),
         ["level", "anew"] => Ok(Deed::Level(Way::Anew)),
         ["put-up", _] => Ok(Deed::Stranger(Side::Up, bytes.ok_or(Malformed::NoBytes)?)),
         ["put-down", _] => Ok(Deed::Stranger(Side::Down, bytes.ok_or(Malformed::NoBytes)?)),
-        [verb @ ("publish" | "tell" | "say"), _] => Ok(Deed::Call(message_call(
-            verb,
-            bytes.ok_or(Malformed::NoBytes)?,
-        )?)),
+        ["publish", _] => Ok(Deed::Call(Call::Publish(bytes.ok_or(Malformed::NoBytes)?))),
+        ["tell", _] => Ok(Deed::Call(Call::Tell(bytes.ok_or(Malformed::NoBytes)?))),
+        ["say", _] => Ok(Deed::Call(Call::Say(bytes.ok_or(Malformed::NoBytes)?))),
         _ => Ok(Deed::Call(call_of(words)?)),
     }
 }
 
-fn ticks_of(word: &str) -> Result<u32, Malformed> {
+fn ticks_of(word: &str) -> Result<u64, Malformed>
+    ensures is { IfOk result (λ n. NumeralUpTo most_ticks word.now n) }
+    ensures no_other { IfErr result (λ _. (n : ℕ) → NumeralUpTo most_ticks word.now n → ⊥) }
+{
     let count = number_of(word)?;
     if count > MOST_TICKS {
         return Err(Malformed::NoNumber);
@@ -205,17 +234,10 @@ fn ticks_of(word: &str) -> Result<u32, Malformed> {
     Ok(count)
 }
 
-// The call with a message.
-fn message_call<'a>(verb: &str, message: &'a [u8]) -> Result<Call<'a>, Malformed> {
-    match verb {
-        "publish" => Ok(Call::Publish(message)),
-        "tell" => Ok(Call::Tell(message)),
-        "say" => Ok(Call::Say(message)),
-        _ => Err(Malformed::NoCommand),
-    }
-}
-
-fn call_of<'a>(words: &[&'a str]) -> Result<Call<'a>, Malformed> {
+fn call_of<'a>(words: &[&'a str]) -> Result<Call<'a>, Malformed>
+    ensures is { IfOk result (λ call. CallLine words.now call) }
+    ensures no_other { IfErr result (λ _. (call : Call) → CallLine words.now call → ⊥) }
+{
     match words {
         ["connect", "join"] => Ok(Call::Connect(How::Join)),
         ["connect", "anew"] => Ok(Call::Connect(How::Anew)),

@@ -1,7 +1,7 @@
 //! Rehearsals, line by line.
 use crate::commands::{Command, Deed, Question};
 use crate::picturing::{show_log, show_play, show_wire};
-use crate::reading::{Words, is_passed_over};
+use crate::reading::{Words, command_of, is_passed_over};
 use crate::shelves::Shelf;
 use crate::showing::{show_answer, show_bytes, show_trouble};
 use crate::sums::{Sums, show_sums};
@@ -133,7 +133,7 @@ impl Rehearsal {
         shelf: &mut S,
         words: &Words<'_>,
     ) -> io::Result<()> {
-        let done = match words.command() {
+        let done = match command_of(words.words.as_slice(), words.bytes.as_deref()) {
             Ok(command) => self.obey(heap, out, shelf, command),
             Err(malformed) => Err(Trouble::Malformed(malformed)),
         };
@@ -259,7 +259,7 @@ fn refusal_of(answer: &Answer) -> Option<Refusal> {
 }
 
 // So many ticks, as long as none is refused.
-fn tick(sums: &mut Sums, play: &mut Play, count: u32) -> Answer {
+fn tick(sums: &mut Sums, play: &mut Play, count: u64) -> Answer {
     for _ in 0..count {
         if let Answer::Did(Err(refusal)) = noted(sums, play.call(Call::Tick)) {
             return Answer::Did(Err(refusal));
