@@ -1,0 +1,29 @@
+//! Packets written and read.
+use crate::messages::stamp;
+use crate::sums::{SEED, mix, mix_bytes, word};
+use fault::Refusal;
+use layout::PACKET_LIMIT;
+use packet::{Packet, Reader};
+use std::alloc::Global;
+
+/// Writes a sequenced packet with a message of this length, and reads it, so many times.
+pub fn packets(heap: Global, length: usize, times: u64) -> Result<u64, Refusal> {
+    let mut message = vec![in heap; 0u8; length]?;
+    let mut out = vec![in heap; 0u8; PACKET_LIMIT]?;
+    let mut sum = SEED;
+    for number in 0..times {
+        stamp(&mut message, number);
+        sum = written_and_read(sum, number, &message, &mut out)?;
+    }
+    Ok(mix_bytes(sum, &out))
+}
+
+// One packet, written at the front of `out` and read from there.
+fn written_and_read(sum: u64, number: u64, message: &[u8], out: &mut [u8]) -> Result<u64, Refusal> {
+    let length = Packet::Sequenced { number, message }.write(out)?;
+    let sum = mix(sum, length as u64);
+    match Reader::new(out).read()? {
+        Some(Packet::Sequenced { number, message }) => Ok(mix(mix(sum, number), word(message))),
+        _ => Ok(sum),
+    }
+}
