@@ -1,4 +1,7 @@
 //! Packets written and read.
+ghost use Rattle.std.specs.Prelude.{◌≡◌, ◌+◌, length, IfOk};
+ghost use Rattle.scenarios.specs.Sums.{mixed, word_of};
+
 use crate::messages::stamp;
 use crate::sums::{SEED, mix, mix_bytes, word};
 use fault::Refusal;
@@ -18,8 +21,11 @@ pub fn packets(heap: Global, length: usize, times: u64) -> Result<u64, Refusal> 
     Ok(mix_bytes(sum, &out))
 }
 
-// One packet, written at the front of `out` and read from there.
-fn written_and_read(sum: u64, number: u64, message: &[u8], out: &mut [u8]) -> Result<u64, Refusal> {
+// One packet, written at the front of `out` and read from there: the sum with its length, its number and the front of
+// its message in it.
+fn written_and_read(sum: u64, number: u64, message: &[u8], out: &mut [u8]) -> Result<u64, Refusal>
+    ensures { IfOk result (λ s. s ≡ mixed (mixed (mixed sum (length message.now + 11)) number) (word_of message.now)) }
+{
     let length = Packet::Sequenced { number, message }.write(out)?;
     let sum = mix(sum, length as u64);
     match Reader::new(out).read()? {

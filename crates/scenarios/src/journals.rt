@@ -1,4 +1,7 @@
 //! Messages into a journal, out of it, and a journal opened.
+ghost use Rattle.std.specs.Prelude.{◌≡◌, ◌-◌, length, drop};
+ghost use Rattle.scenarios.specs.Sums.{word_of};
+
 use crate::messages::stamp;
 use crate::sums::{SEED, mix, mix_bytes, word};
 use fault::Refusal;
@@ -86,7 +89,9 @@ pub fn copies(heap: Global, size: usize, length: usize, times: u64) -> Result<u6
 }
 
 // The number in the last eight bytes, as `word` has it.
-fn last_word(bytes: &[u8]) -> u64 {
+fn last_word(bytes: &[u8]) -> u64
+    ensures { result ≡ word_of (drop (length bytes.now - 8) bytes.now) }
+{
     match bytes.last_chunk::<8>() {
         Some(last) => word(last),
         None => word(bytes),

@@ -1,22 +1,28 @@
 //! A pair with its parts, for a scenario.
+ghost use Rattle.rules.specs.Rounds.{Publish};
+ghost use Rattle.pair.specs.Steps.{Does, Goes};
+ghost use Rattle.relay.specs.Levels.{how_of, Brings};
+ghost use Rattle.relay.specs.declared.leveling.Way.TheVariants.{Anew};
+
 use account::Accounts;
 use fault::Refusal;
 use journal::Journal;
 use layout::PACKET_LIMIT;
-use line::SteadyLine;
+use line::{Line, SteadyLine};
 use message_log::Log;
 use pair::Pair;
 use relay::{Way, bring_level};
 use ring::Ring;
 use rules::Report;
 use std::alloc::Global;
+use std::marker::Model;
 
 /// The full size of each line, in bytes.
 const LINE_SIZE: usize = 65_536;
 
 /// A pair, and all that its calls are lent: two journals, two lines of a kind, and the buffers.
 #[derive(Drop)]
-pub struct Stage<L> {
+pub struct Stage<L: SteadyLine> {
     pub pair: Pair,
     pub hub_log: Journal,
     pub seat_log: Journal,
@@ -25,6 +31,16 @@ pub struct Stage<L> {
     hub_frame: Vec<u8>,
     seat_frame: Vec<u8>,
     out: Vec<u8>,
+}
+
+/// A stage means what its pair means with all that it is lent.
+impl<L: SteadyLine> Model for Stage<L> {
+    ghost use Rattle.rules.specs.State as State;
+    ghost use Rattle.pair.specs.Meanings.{pair_of};
+
+    ghost Value = { State.Pair };
+
+    ghost view = { λ s. pair_of s.pair (⟦<Journal as Log>⟧.view s.hub_log) (⟦<Journal as Log>⟧.view s.seat_log) (L.Line.view s.up) (L.Line.view s.down) s.hub_frame.items s.seat_frame.items s.out.items };
 }
 
 impl<L: SteadyLine + Drop> Stage<L> {
@@ -59,12 +75,16 @@ impl<L: SteadyLine + Drop> Stage<L> {
     }
 
     /// The hub publishes a message.
-    pub fn publish(&mut self, message: &[u8]) -> Result<(), Refusal> {
+    pub fn publish(&mut self, message: &[u8]) -> Result<(), Refusal>
+        ensures { Does (Publish message.now) self.old result self.new }
+    {
         self.pair.publish(message, &mut self.hub_log)
     }
 
     /// The seat takes the session from its first message, until it has all that the hub has.
-    pub fn level(&mut self) -> Result<(), Refusal> {
+    pub fn level(&mut self) -> Result<(), Refusal>
+        ensures { Brings (how_of Anew) self.old result self.new }
+    {
         bring_level(
             &mut self.pair,
             Way::Anew,
@@ -79,7 +99,9 @@ impl<L: SteadyLine + Drop> Stage<L> {
     }
 
     /// One round.
-    pub fn round(&mut self) -> Result<Report, Refusal> {
+    pub fn round(&mut self) -> Result<Report, Refusal>
+        ensures { Goes self.old result self.new }
+    {
         self.pair.round(
             &self.hub_log,
             &mut self.seat_log,
