@@ -10,6 +10,7 @@ use line::SteadyLine;
 /// Takes once from the line, at most what the frame still lacks, and says how many bytes came. The frame is the
 /// first `held` bytes of its buffer, and what comes is laid behind it. Where the buffer could not hold the longest
 /// packet, or more than that is held, nothing is taken.
+#[inline(always)]
 pub fn fill<L: SteadyLine>(line: &mut L, frame: &mut [u8], held: usize) -> usize
     ensures { Filled (L.Line.view line.old) frame.old held (wanted held frame.old) result (L.Line.view line.new) frame.new }
 {
@@ -24,6 +25,7 @@ pub fn fill<L: SteadyLine>(line: &mut L, frame: &mut [u8], held: usize) -> usize
 }
 
 // What a frame still lacks.
+#[inline(always)]
 fn lacking(frame: &[u8]) -> usize
     ensures { result ≡ lack frame.now }
 {
@@ -37,6 +39,7 @@ fn lacking(frame: &[u8]) -> usize
 }
 
 // Takes into the places from `from` to `end`.
+#[inline(always)]
 fn take_at<L: SteadyLine>(line: &mut L, frame: &mut [u8], from: usize, end: usize) -> usize
     requires { (from ≤ end) × (end ≤ length frame.old) }
     ensures { Filled (L.Line.view line.old) frame.old from (end - from) result (L.Line.view line.new) frame.new }

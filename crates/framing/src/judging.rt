@@ -1,8 +1,8 @@
 //! What an end says of its frame.
 //! It knows which letters it takes, and so can tell one that is out of place.
-ghost use Rattle.std.specs.Prelude.{◌≡◌, slice_index};
+ghost use Rattle.std.specs.Prelude.{◌≡◌, false, slice_index};
 ghost use Rattle.packet.specs.Meanings.{answer_of};
-ghost use Rattle.rules.specs.Frames.{among, placed as placed_of, judged};
+ghost use Rattle.rules.specs.Frames.{among, placed, judged};
 
 use fault::PacketFault;
 use layout::Letter;
@@ -10,13 +10,26 @@ use packet::{Packet, Reader};
 
 /// What an end that takes these letters says of its frame: a part, a packet or a fault. A letter that is out of
 /// place is told before a wrong length and a wrong content, and after a letter that is none.
+#[inline(always)]
 pub fn judge<'a>(bytes: &'a [u8], letters: &[Letter]) -> Result<Option<Packet<'a>>, PacketFault>
     ensures { answer_of result ≡ judged letters.now bytes.now }
 {
-    placed(is_taken(bytes, letters), Reader::new(bytes).read())
+    let reader = Reader::new(bytes);
+    // Most takes leave a part, which its length tells: no packet is read for it.
+    let Some(length) = reader.packet_len()? else {
+        return Ok(None);
+    };
+    if bytes.len() < length {
+        return Ok(None);
+    }
+    if is_taken(bytes, letters) {
+        return reader.read();
+    }
+    misplaced(reader.read())
 }
 
 // Whether the letter of the packet at the front of the bytes is one of these.
+#[inline(always)]
 fn is_taken(bytes: &[u8], letters: &[Letter]) -> bool
     ensures { result ≡ among letters.now (slice_index bytes.now 2) }
 {
@@ -24,15 +37,15 @@ fn is_taken(bytes: &[u8], letters: &[Letter]) -> bool
     letters.iter().any(|letter| byte == u8::from(*letter))
 }
 
-// What an end says where a reader says this and the letter is taken `here`, or not.
-fn placed<'a>(
-    here: bool,
+// What an end says where a reader says this, and the letter is not one that it takes.
+#[inline(always)]
+fn misplaced<'a>(
     read: Result<Option<Packet<'a>>, PacketFault>,
 ) -> Result<Option<Packet<'a>>, PacketFault>
-    ensures { answer_of result ≡ placed_of here (answer_of read.entry) }
+    ensures { answer_of result ≡ placed false (answer_of read.entry) }
 {
     match read {
-        Ok(Some(_)) | Err(PacketFault::WrongLength | PacketFault::WrongContent(_)) if !here => Err(
+        Ok(Some(_)) | Err(PacketFault::WrongLength | PacketFault::WrongContent(_)) => Err(
             PacketFault::OutOfPlace,
         ),
         _ => read,

@@ -54,6 +54,7 @@ impl TryFrom<u8> for Letter {
 
     ghost try_from_gives = { λ b r. r ≡ letter_of b };
 
+    #[inline(always)]
     fn try_from(byte: u8) -> Result<Letter, PacketFault> {
         match byte {
             b'L' => Ok(Letter::LoginRequest),
@@ -75,6 +76,7 @@ impl TryFrom<u8> for Letter {
 
 impl Letter {
     /// The smallest length number of a packet with this letter.
+    #[inline(always)]
     pub fn shortest(self) -> usize
         ensures { result ≡ shortest self }
     {
@@ -89,6 +91,7 @@ impl Letter {
     }
 
     /// The largest length number of a packet with this letter.
+    #[inline(always)]
     pub fn longest(self) -> usize
         ensures { result ≡ longest self }
     {
@@ -101,6 +104,7 @@ impl Letter {
     }
 
     /// Whether a packet with this letter may have this length number.
+    #[inline(always)]
     pub fn allows(self, length: usize) -> bool
         ensures { result ≡ allowed self length }
     {

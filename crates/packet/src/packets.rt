@@ -61,6 +61,7 @@ pub enum Packet<'a> {
 
 impl Packet<'_> {
     /// The packet's letter.
+    #[inline(always)]
     pub fn letter(self) -> Letter
         ensures { result ≡ letter (value_of self.entry) }
     {

@@ -19,6 +19,7 @@ pub struct Reader<'a> {
 }
 
 impl<'a> Reader<'a> {
+    #[inline(always)]
     pub fn new(bytes: &'a [u8]) -> Reader<'a>
         ensures { result.bytes.now ≡ bytes.now }
     {
@@ -27,6 +28,7 @@ impl<'a> Reader<'a> {
 
     /// The length of the first packet with the two bytes of its length number, once these are in.
     #[tactic(auto, unfolding(crate::specs::Decoding::packet_length))]
+    #[inline(always)]
     pub fn packet_len(&self) -> Result<Option<usize>, PacketFault>
         ensures { result ≡ packet_length self.now.bytes.now }
     {
@@ -38,6 +40,7 @@ impl<'a> Reader<'a> {
 
     /// The first packet, or `None` while it is not all there yet. A length number that is 0 or too large is told
     /// as soon as its two bytes are in; any other fault, once the packet is whole.
+    #[inline(always)]
     pub fn read(&self) -> Result<Option<Packet<'a>>, PacketFault>
         ensures { Told self.now.bytes.now (answer_of result) }
     {
@@ -46,6 +49,7 @@ impl<'a> Reader<'a> {
 }
 
 // The first packet of the bytes, with all that holds of such a reading.
+#[inline(always)]
 fn first<'a>(bytes: &'a [u8]) -> Result<Option<Packet<'a>>, PacketFault>
     ensures { Told bytes.now (answer_of result) }
 {
@@ -54,6 +58,7 @@ fn first<'a>(bytes: &'a [u8]) -> Result<Option<Packet<'a>>, PacketFault>
 
 // The first packet of the bytes: length number, letter, body.
 #[tactic(auto, unfolding(crate::specs::Decoding::decode))]
+#[inline(always)]
 fn taken_apart<'a>(bytes: &'a [u8]) -> Result<Option<Packet<'a>>, PacketFault>
     ensures { answer_of result ≡ decode bytes.now }
 {
@@ -74,6 +79,7 @@ fn taken_apart<'a>(bytes: &'a [u8]) -> Result<Option<Packet<'a>>, PacketFault>
 }
 
 // The length number in the first two bytes.
+#[inline(always)]
 fn length_number(low: u8, high: u8) -> Result<usize, PacketFault>
     ensures { result ≡ counted (low + high * 256) }
 {
@@ -88,6 +94,7 @@ fn length_number(low: u8, high: u8) -> Result<usize, PacketFault>
 }
 
 // A whole packet, from its letter and its body.
+#[inline(always)]
 fn opened<'a>(letter: u8, body: &'a [u8]) -> Result<Packet<'a>, PacketFault>
     requires { length body.now < length_limit }
     ensures { values_of result ≡ opened_of letter body.now }
@@ -101,6 +108,7 @@ fn opened<'a>(letter: u8, body: &'a [u8]) -> Result<Packet<'a>, PacketFault>
 
 // The fields of a body whose length its letter allows.
 #[tactic(auto, using(std::proofs::lemmas::List::take_rest))]
+#[inline(always)]
 fn content<'a>(letter: Letter, body: &'a [u8]) -> Result<Packet<'a>, PacketFault>
     requires { allowed letter (length body.now + 1) ≡ true }
     ensures { values_of result ≡ content_of letter body.now }
@@ -137,6 +145,7 @@ fn content<'a>(letter: Letter, body: &'a [u8]) -> Result<Packet<'a>, PacketFault
     }
 }
 
+#[inline(always)]
 fn login<'a>(body: &'a [u8]) -> Login<'a>
     requires { length body.now ≡ 35 }
     ensures version { result.version.now ≡ take 5 body.now }
@@ -156,6 +165,7 @@ fn login<'a>(body: &'a [u8]) -> Login<'a>
     }
 }
 
+#[inline(always)]
 fn response<'a>(body: &'a [u8]) -> Result<Packet<'a>, PacketFault>
     requires { length body.now ≡ 10 }
     ensures { values_of result ≡ content_of LoginResponse body.now }
@@ -168,6 +178,7 @@ fn response<'a>(body: &'a [u8]) -> Result<Packet<'a>, PacketFault>
 }
 
 // A number in eight bytes, the least byte first.
+#[inline(always)]
 fn number(bytes: &[u8]) -> u64
     requires { length bytes.now ≡ 8 }
     ensures { result ≡ number_of bytes.now }

@@ -23,6 +23,7 @@ use memory::lay;
 impl Packet<'_> {
     /// Writes the packet at the front of `out` and gives its length. A buffer that is too short is refused
     /// first, then a packet that could not be read back; the buffer is untouched in both cases.
+    #[inline(always)]
     pub fn write(self, out: &mut [u8]) -> Result<usize, Refusal>
         ensures { Written (value_of self.entry) out.old out.new result }
     {
@@ -37,6 +38,7 @@ impl Packet<'_> {
 
     /// How long the packet is as it is written, whether or not it can be read back then: four texts may be
     /// longer together than a `usize` counts.
+    #[inline(always)]
     pub fn size(self) -> u128
         ensures { result ≡ length_number (value_of self.entry) + 2 }
     {
@@ -63,6 +65,7 @@ impl Packet<'_> {
     }
 
     // The length number of a packet that can be read back.
+    #[inline(always)]
     fn writable(self) -> Result<usize, PacketFault>
         ensures answer { result ≡ writable_of (value_of self.entry) }
         ensures valid { IfOk result (λ n. Valid (value_of self.entry) × (n ≡ length_number (value_of self.entry)) × (n ≤ length_limit)) }
@@ -82,6 +85,7 @@ impl Packet<'_> {
     }
 
     // Whether each text of a fixed width has it.
+    #[inline(always)]
     fn has_widths(self) -> bool
         ensures widths { result ≡ widths (value_of self.entry) }
         ensures fields { result ≡ true → Fields (value_of self.entry) }
@@ -98,6 +102,7 @@ impl Packet<'_> {
     }
 
     // Writes what follows the letter.
+    #[inline(always)]
     fn put_body(self, out: &mut [u8])
         requires fields { Fields (value_of self) }
         requires room { 3 + length (body (value_of self)) ≤ length out.old }
@@ -134,6 +139,7 @@ impl Packet<'_> {
 }
 
 // The length number and the letter.
+#[inline(always)]
 fn put_head(out: &mut [u8], count: u16, letter: u8)
     requires { 3 ≤ length out.old }
     ensures { out.new ≡ little 2 count ++ (letter ∷ drop 3 out.old) }
@@ -143,6 +149,7 @@ fn put_head(out: &mut [u8], count: u16, letter: u8)
 }
 
 // The body of a login request.
+#[inline(always)]
 fn put_login(out: &mut [u8], login: Login<'_>)
     requires fields { Fields (value_of (LoginRequest login)) }
     requires room { 38 ≤ length out.old }
@@ -154,6 +161,7 @@ fn put_login(out: &mut [u8], login: Login<'_>)
 }
 
 // Two pieces, one right after the other.
+#[inline(always)]
 fn put_two(out: &mut [u8], at: usize, first: &[u8], second: &[u8])
     requires { at + length first.now + length second.now ≤ length out.old }
     ensures { out.new ≡ laid out.old at (first.now ++ second.now) }

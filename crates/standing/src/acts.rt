@@ -19,6 +19,7 @@ use rules::{Received, SeatPhase};
 impl Standing {
     /// Acts on a packet, by the phase. What is wrong with the packet, and that the log refuses the next message, is
     /// passed on with nothing changed.
+    #[inline(always)]
     pub fn act<G: Log>(&mut self, packet: Packet<'_>, log: &mut G) -> Result<Received, Fault>
         ensures { (p : Pair) → closing result (stands_in self.new (G.Log.view log.new) p) ≡ seat_acts self.old.phase (value_of packet.entry) (stands_in self.old (G.Log.view log.old) p) }
     {
