@@ -167,7 +167,7 @@ impl Author {
         self.text.extend_from_slice(command.as_bytes());
         self.text.push(b'\n');
         self.written += 1;
-        self.rehearsal.command(command.as_bytes())
+        self.rehearsal.command(command)
     }
 
     fn script(mut self) -> Vec<u8> {
@@ -1150,7 +1150,7 @@ impl Coverage {
         {
             let command = String::from_utf8_lossy(line);
             let written = all_written(&rehearsal);
-            let answer = rehearsal.command(line);
+            let answer = rehearsal.command(&String::from_utf8_lossy(line));
             self.commands += 1;
             let name = command.split(' ').next().unwrap_or_default();
             for mut kind in kinds_of(name, &answer) {

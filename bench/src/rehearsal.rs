@@ -16,12 +16,13 @@ pub fn rehearse(script: &[u8]) -> Vec<u8> {
     let mut rehearsal = Rehearsal::new();
     let mut trace = Vec::new();
     for line in script.split(|&byte| byte == b'\n') {
-        let line = line.trim_ascii();
-        if line.is_empty() || line.starts_with(b"#") {
+        let line = String::from_utf8_lossy(line);
+        let line = line.trim();
+        if line.is_empty() || line.starts_with('#') {
             continue;
         }
         let answer = rehearsal.command(line);
-        trace.extend_from_slice(line);
+        trace.extend_from_slice(line.as_bytes());
         trace.extend_from_slice(b" -> ");
         trace.extend_from_slice(answer.as_bytes());
         trace.push(b'\n');
@@ -144,11 +145,8 @@ impl Rehearsal {
     }
 
     /// Performs one command and gives its answer.
-    pub fn command(&mut self, line: &[u8]) -> String {
-        let words: Vec<&[u8]> = line
-            .split(u8::is_ascii_whitespace)
-            .filter(|word| !word.is_empty())
-            .collect();
+    pub fn command(&mut self, line: &str) -> String {
+        let words: Vec<&[u8]> = line.split_whitespace().map(str::as_bytes).collect();
         let Some((name, rest)) = words.split_first() else {
             return "error".to_string();
         };
@@ -484,9 +482,7 @@ fn line_of(words: &[&[u8]]) -> Result<Result<AnyLine, Refusal>, Malformed> {
 }
 
 fn number(word: &[u8]) -> Result<u64, Malformed> {
-    if !word.iter().all(u8::is_ascii_digit) {
-        return Err(Malformed);
-    }
+    // A number is parsed after a plus or none, as the pages say.
     std::str::from_utf8(word)
         .ok()
         .and_then(|text| text.parse().ok())

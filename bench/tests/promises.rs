@@ -33,7 +33,7 @@ fn the_promises_hold() {
                 continue;
             }
             let held = messages(rehearsal.hub_log()).1.len();
-            let answer = rehearsal.command(command);
+            let answer = rehearsal.command(&String::from_utf8_lossy(command));
             let words: Vec<&[u8]> = command.split(|&byte| byte == b' ').collect();
             let Some(pair) = rehearsal.pair() else {
                 continue;
