@@ -41,7 +41,9 @@ pub fn retrace<R: BufRead + Drop, W: Write, S: Shelf>(
         answers: 0,
         others: 0,
     };
+    let mut number = 0u64;
     for bytes in input.split(heap, b'\n') {
+        number = number.saturating_add(1);
         let line = String::from_utf8_lossy(heap, &bytes?)?;
         let (command, answer) = parted(line.as_str());
         let words = Words::of(heap, command)?;
@@ -52,7 +54,7 @@ pub fn retrace<R: BufRead + Drop, W: Write, S: Shelf>(
             retraced.answers = retraced.answers.saturating_add(1);
             if plain(now.as_str()) != plain(answer) {
                 retraced.others = retraced.others.saturating_add(1);
-                writeln!(out, "{command} -> {now}, and was {answer}")?;
+                writeln!(out, "line {number}: {command} -> {now}, and was {answer}")?;
             }
         }
     }

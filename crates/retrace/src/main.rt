@@ -1,8 +1,10 @@
-//! `retrace FILE..`: performs the commands of saved traces again, and tells each answer that is another one now.
+//! `retrace FILE..`: performs the commands of saved traces again, and tells each answer that is another one now. It ends
+//! with status 1 if there is one, or a file could not be read.
 #![tactic(auto)]
 
 use rehearsing::{NoShelf, Retraced, retrace};
 use std::io::{BufReader, BufWriter, Write};
+use std::process::ExitCode;
 use std::{env, fs, io};
 
 // What became of a trace, in a line.
@@ -17,12 +19,14 @@ fn show_retraced<W: Write>(out: &mut W, path: &str, retraced: Retraced) -> io::R
     }
 }
 
-/// Compares each trace that is named on the command line.
-fn run(rt: &HostRuntime) -> io::Result<()> {
+/// Compares each trace that is named on the command line, and says whether all are as they were.
+fn run(rt: &HostRuntime) -> io::Result<bool> {
+    let mut same = true;
     let mut out = BufWriter::new(rt.alloc(), rt.stdout())?;
     let mut paths = env::args(rt)?.skip(1).peekable();
     if paths.peek().is_none() {
         writeln!(out, "usage: retrace FILE..")?;
+        same = false;
     }
     for path in paths {
         match fs::open(rt, path.as_str()) {
@@ -30,13 +34,22 @@ fn run(rt: &HostRuntime) -> io::Result<()> {
                 let input = BufReader::new(rt.alloc(), file)?;
                 let retraced = retrace(rt.alloc(), input, &mut out, &mut NoShelf)?;
                 show_retraced(&mut out, path.as_str(), retraced)?;
+                same = same && retraced.others == 0;
             }
-            Err(why) => writeln!(out, "{path}: {why}")?,
+            Err(why) => {
+                writeln!(out, "{path}: {why}")?;
+                same = false;
+            }
         }
     }
-    out.flush()
+    out.flush()?;
+    Ok(same)
 }
 
-fn main(rt: HostRuntime) -> anyhow::Result<()> {
-    Ok(run(&rt)?)
+fn main(rt: HostRuntime) -> anyhow::Result<ExitCode> {
+    if run(&rt)? {
+        Ok(ExitCode::SUCCESS)
+    } else {
+        Ok(ExitCode::FAILURE)
+    }
 }
