@@ -1,6 +1,6 @@
 //! The layer, and how it is a line.
 ghost use Rattle.std.specs.Prelude.{◌≡◌, replicate};
-ghost use Rattle.line.specs.Lines.{Put};
+ghost use Rattle.line.specs.Lines.{Put, Taken, cleared};
 ghost use Rattle.tapped.specs.Taps.{counted, letter_in};
 
 use capture::Tally;
@@ -75,11 +75,17 @@ impl<L: Line> Line for Tapped<L> {
         Ok(())
     }
 
-    fn take(&mut self, buffer: &mut [u8]) -> usize {
+    fn take(&mut self, buffer: &mut [u8]) -> usize
+        ensures taken { Taken (L.Line.view self.old.line) buffer.old result (L.Line.view self.new.line) buffer.new }
+        ensures same { self.new.tally ≡ self.old.tally }
+    {
         self.line.take(buffer)
     }
 
-    fn clear(&mut self) {
+    fn clear(&mut self)
+        ensures after { L.Line.view self.new.line ≡ cleared (L.Line.view self.old.line) }
+        ensures same { self.new.tally ≡ self.old.tally }
+    {
         self.line.clear();
     }
 }
