@@ -1,2 +1,3 @@
+pub mod Made
 pub mod Makings
 pub mod Strangers

@@ -1,11 +1,22 @@
 //! How logs and lines are made of memory.
+ghost use Rattle.std.specs.Prelude.{◌≡◌, ℕ, ◌+◌, true, ◌⊎◌, min, [], length, replicate, IfOk, MatchResult};
+ghost use Rattle.fault.specs.declared.refusals.Refusal.TheVariants as R;
+ghost use Rattle.layout.specs.Limits.{packet_limit};
+ghost use Rattle.line.specs.Lines.{fresh};
+ghost use Rattle.record.specs.Format.{saved as form_of};
+ghost use Rattle.indexed.specs.Pooled.{makes as pools};
+ghost use Rattle.journal.specs.Layout.{makes, journal};
+ghost use Rattle.journal.specs.Opening.{Broken, opens};
+ghost use Rattle.playing.specs.Made.{LogMade, LineMade, LogDenied, Denied, indexed};
+
 use crate::forms::{LineForm, LogForm};
 use any_line::AnyLine;
 use any_log::AnyLog;
 use fault::Refusal;
 use indexed::{Indexed, POOL_LIMIT, TABLE_LIMIT};
 use journal::{JOURNAL_LIMIT, Journal};
-use line::LARGEST_SIZE;
+use line::{LARGEST_SIZE, Line};
+use message_log::Log;
 use paced::Paced;
 use ring::Ring;
 use std::alloc::{AllocError, Global};
@@ -13,12 +24,16 @@ use straight::Straight;
 
 // A memory of so many bytes. Of more than a log or line can have there is one more than that, so that it is refused
 // by its length.
-fn memory(heap: Global, bytes: usize, most: usize) -> Result<Vec<u8>, AllocError> {
+fn memory(heap: Global, bytes: usize, most: usize) -> Result<Vec<u8>, AllocError>
+    ensures { IfOk result (λ v. v.items ≡ replicate (min bytes (most + 1)) 0) }
+{
     vec![in heap; 0; bytes.min(most.saturating_add(1))]
 }
 
 /// The log of this form.
-pub(crate) fn log_of(heap: Global, form: LogForm<'_>) -> Result<AnyLog, Refusal> {
+pub(crate) fn log_of(heap: Global, form: LogForm<'_>) -> Result<AnyLog, Refusal>
+    ensures { MatchResult result (λ l. LogMade form.entry (⟦<AnyLog as Log>⟧.view l)) (λ e. LogDenied form.entry e) }
+{
     match form {
         LogForm::Journal { bytes } => Ok(AnyLog::Journal(journal_of(heap, bytes)?)),
         LogForm::Indexed { pool, table } => Ok(AnyLog::Indexed(indexed_of(heap, pool, table)?)),
@@ -26,24 +41,32 @@ pub(crate) fn log_of(heap: Global, form: LogForm<'_>) -> Result<AnyLog, Refusal>
     }
 }
 
-fn journal_of(heap: Global, bytes: usize) -> Result<Journal, Refusal> {
+fn journal_of(heap: Global, bytes: usize) -> Result<Journal, Refusal>
+    ensures { MatchResult result (λ j. ⟦<Journal as Log>⟧.view j ≡ journal bytes 0 []) (λ e. Denied (makes bytes ≡ true) e) }
+{
     Ok(Journal::new(heap, memory(heap, bytes, JOURNAL_LIMIT)?)?)
 }
 
-fn indexed_of(heap: Global, pool: usize, table: usize) -> Result<Indexed, Refusal> {
+fn indexed_of(heap: Global, pool: usize, table: usize) -> Result<Indexed, Refusal>
+    ensures { MatchResult result (λ l. ⟦<Indexed as Log>⟧.view l ≡ indexed pool table) (λ e. Denied (pools pool table ≡ true) e) }
+{
     let ends = vec![in heap; 0u32; table.min(TABLE_LIMIT + 1)]?;
     Ok(Indexed::new(memory(heap, pool, POOL_LIMIT)?, ends)?)
 }
 
 // A journal of so many bytes that holds a saved one. A saved one that is longer is refused by its length.
-fn opened(heap: Global, bytes: usize, saved: &[u8]) -> Result<Journal, Refusal> {
+fn opened(heap: Global, bytes: usize, saved: &[u8]) -> Result<Journal, Refusal>
+    ensures { MatchResult result (λ j. let l = ⟦<Journal as Log>⟧.view j in (l ≡ journal bytes l.session l.messages) × (saved.now ≡ form_of l.session l.messages)) (λ e. Denied (opens bytes (length saved.now) ≡ true) e ⊎ ((place : ℕ) × (e ≡ R.BrokenLog place) × Broken saved.now place)) }
+{
     let mut memory = memory(heap, bytes, JOURNAL_LIMIT)?;
     memory::lay(memory.as_mut_slice(), 0, saved);
     Ok(Journal::open(heap, memory, saved.len())?)
 }
 
 /// The line of this form.
-pub(crate) fn line_of(heap: Global, form: LineForm) -> Result<AnyLine, Refusal> {
+pub(crate) fn line_of(heap: Global, form: LineForm) -> Result<AnyLine, Refusal>
+    ensures { IfOk result (λ l. LineMade form (⟦<AnyLine as Line>⟧.view l)) }
+{
     match form {
         LineForm::Ring { size } => Ok(AnyLine::Ring(ring_of(heap, size)?)),
         LineForm::Straight { size } => Ok(AnyLine::Straight(straight_of(heap, size)?)),
@@ -58,10 +81,14 @@ pub(crate) fn line_of(heap: Global, form: LineForm) -> Result<AnyLine, Refusal> 
     }
 }
 
-fn ring_of(heap: Global, size: usize) -> Result<Ring, Refusal> {
+fn ring_of(heap: Global, size: usize) -> Result<Ring, Refusal>
+    ensures { IfOk result (λ l. ⟦<Ring as Line>⟧.view l ≡ fresh size packet_limit) }
+{
     Ok(Ring::new(memory(heap, size, LARGEST_SIZE)?)?)
 }
 
-fn straight_of(heap: Global, size: usize) -> Result<Straight, Refusal> {
+fn straight_of(heap: Global, size: usize) -> Result<Straight, Refusal>
+    ensures { IfOk result (λ l. ⟦<Straight as Line>⟧.view l ≡ fresh size 1) }
+{
     Ok(Straight::new(memory(heap, size, LARGEST_SIZE)?)?)
 }

@@ -1,6 +1,7 @@
 //! The parts of a pair, as they are made one by one.
-ghost use Rattle.std.specs.Prelude.{MatchResult};
-ghost use Rattle.playing.specs.Makings.{Makes, Left};
+ghost use Rattle.std.specs.Prelude.{◌≡◌, false, IfOk, MatchResult};
+ghost use Rattle.layout.specs.Limits.{packet_limit};
+ghost use Rattle.playing.specs.Makings.{Bare, Blank, Copied, Joined, Left, Makes, PartDenied, is_whole};
 
 use crate::forms::{End, Part, Side, Texts};
 use crate::making::{line_of, log_of};
@@ -10,6 +11,7 @@ use any_line::AnyLine;
 use any_log::AnyLog;
 use fault::Refusal;
 use layout::PACKET_LIMIT;
+use line::Line;
 use std::alloc::{AllocError, Global};
 use tapped::Tapped;
 
@@ -22,7 +24,9 @@ pub struct Credentials {
 }
 
 impl Credentials {
-    fn of(heap: Global, texts: Texts<'_>) -> Result<Credentials, AllocError> {
+    fn of(heap: Global, texts: Texts<'_>) -> Result<Credentials, AllocError>
+        ensures { IfOk result (λ c. Copied texts.entry c) }
+    {
         Ok(Credentials {
             user: texts.user.to_vec(heap)?,
             computer: texts.computer.to_vec(heap)?,
@@ -41,7 +45,9 @@ pub struct Buffers {
 
 impl Buffers {
     /// Buffers of these lengths, of zeros.
-    fn of(heap: Global, hub: usize, seat: usize, out: usize) -> Result<Buffers, AllocError> {
+    fn of(heap: Global, hub: usize, seat: usize, out: usize) -> Result<Buffers, AllocError>
+        ensures { IfOk result (λ b. Blank hub seat out b) }
+    {
         Ok(Buffers {
             hub_frame: vec![in heap; 0; hub]?,
             seat_frame: vec![in heap; 0; seat]?,
@@ -64,7 +70,9 @@ pub struct Parts {
 
 impl Parts {
     /// No part but an empty account table, and buffers that are long enough.
-    pub fn new(heap: Global) -> Result<Parts, AllocError> {
+    pub fn new(heap: Global) -> Result<Parts, AllocError>
+        ensures { IfOk result (λ p. Bare p × Blank packet_limit packet_limit packet_limit p.buffers) }
+    {
         Ok(Parts {
             buffers: Buffers::of(heap, PACKET_LIMIT, PACKET_LIMIT, PACKET_LIMIT)?,
             ..Parts::none(heap)
@@ -72,7 +80,9 @@ impl Parts {
     }
 
     /// No part but an empty account table, and buffers without a byte.
-    pub fn none(heap: Global) -> Parts {
+    pub fn none(heap: Global) -> Parts
+        ensures { Bare result × Blank 0 0 0 result.buffers }
+    {
         Parts {
             hub_log: None,
             seat_log: None,
@@ -90,7 +100,7 @@ impl Parts {
 
     /// Makes a part, in place of one that was made before. Where it is refused, the parts stay as they are.
     pub fn make(&mut self, heap: Global, part: Part<'_>) -> Result<(), Refusal>
-        ensures { MatchResult result (λ _. Makes part.entry self.old self.new) (λ _. Left self.old self.new) }
+        ensures { MatchResult result (λ _. Makes ⟦<AnyLine as Line>⟧.view part.entry self.old self.new) (λ e. PartDenied part.entry self.old e × Left self.old self.new) }
     {
         match part {
             Part::Log(End::Hub, form) => self.hub_log = Some(log_of(heap, form)?),
@@ -109,7 +119,9 @@ impl Parts {
     }
 
     /// All parts of a pair, or these parts where one is missing.
-    pub fn whole(self) -> Result<Whole, Parts> {
+    pub fn whole(self) -> Result<Whole, Parts>
+        ensures { MatchResult result (λ whole. Joined ⟦<AnyLine as Line>⟧.view self whole) (λ parts. (is_whole self ≡ false) × (parts ≡ self)) }
+    {
         let Parts {
             hub_log,
             seat_log,
@@ -143,6 +155,8 @@ impl Parts {
 }
 
 impl From<Whole> for Parts {
+    ghost from_gives = { λ whole parts. Joined ⟦<AnyLine as Line>⟧.view parts whole };
+
     fn from(whole: Whole) -> Parts {
         Parts {
             hub_log: Some(whole.hub_log),
