@@ -1,3 +1,4 @@
 pub mod Made
 pub mod Makings
+pub mod Played
 pub mod Strangers

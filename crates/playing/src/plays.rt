@@ -1,4 +1,5 @@
 //! A pair with its parts, and what is done to it.
+ghost use Rattle.std.specs.Prelude.{◌≡◌};
 ghost use Rattle.relay.specs.Calls.{call_of, answer_of};
 ghost use Rattle.relay.specs.Histories.{Performed};
 ghost use Rattle.relay.specs.Levels.{how_of, Brings};
@@ -27,20 +28,20 @@ pub struct Play {
     pub buffers: Buffers,
 }
 
-/// A play means what its pair means with all that it is lent.
+/// A play means what its pair means with all that it is lent, and how many packets were put on each line.
 impl Model for Play {
-    ghost use Rattle.rules.specs.State as State;
     ghost use Rattle.pair.specs.Meanings.{pair_of};
+    ghost use Rattle.playing.specs.Played as Given;
 
-    ghost Value = { State.Pair };
+    ghost Value = { Given.Played };
 
-    ghost view = { λ p. pair_of p.pair (⟦<AnyLog as Log>⟧.view p.hub_log) (⟦<AnyLog as Log>⟧.view p.seat_log) (⟦<Tapped<AnyLine> as Line>⟧.view p.up) (⟦<Tapped<AnyLine> as Line>⟧.view p.down) p.buffers.hub_frame.items p.buffers.seat_frame.items p.buffers.out.items };
+    ghost view = { λ p. record { pair = pair_of p.pair (⟦<AnyLog as Log>⟧.view p.hub_log) (⟦<AnyLog as Log>⟧.view p.seat_log) (⟦<Tapped<AnyLine> as Line>⟧.view p.up) (⟦<Tapped<AnyLine> as Line>⟧.view p.down) p.buffers.hub_frame.items p.buffers.seat_frame.items p.buffers.out.items; up = p.up.tally; down = p.down.tally } };
 }
 
 impl Play {
     /// Performs a call: a step of the rules, after which the promises hold as before.
     pub fn call(&mut self, call: Call<'_>) -> Answer
-        ensures { Performed self.old (call_of call.entry) (answer_of result) self.new }
+        ensures { Performed self.old.pair (call_of call.entry) (answer_of result) self.new.pair }
     {
         perform(
             &mut self.pair,
@@ -57,7 +58,7 @@ impl Play {
 
     /// Brings the seat level with the hub: a connect, and as many rounds as that takes.
     pub fn level(&mut self, way: Way) -> Result<(), Refusal>
-        ensures { Brings (how_of way) self.old result self.new }
+        ensures { Brings (how_of way) self.old.pair result self.new.pair }
     {
         bring_level(
             &mut self.pair,
@@ -74,7 +75,9 @@ impl Play {
 
     /// Puts a stranger's bytes on a line. Nothing else changes; they are counted as nobody's packets.
     pub fn meddle(&mut self, side: Side, bytes: &[u8]) -> Result<(), Refusal>
-        ensures { Meddles side bytes.now self.old result self.new }
+        ensures put { Meddles side bytes.now self.old.pair result self.new.pair }
+        ensures up { self.new.up ≡ self.old.up }
+        ensures down { self.new.down ≡ self.old.down }
     {
         match side {
             Side::Up => self.up.put_past(bytes),

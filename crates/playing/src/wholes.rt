@@ -38,7 +38,7 @@ impl Model for Whole {
 impl Whole {
     /// The pair of these parts, or the refusal with the parts.
     pub fn set_up(self) -> Result<Play, Unmade<Whole>>
-        ensures { MatchResult result (λ play. set_up self ≡ Ok play) (λ unmade. (set_up self ≡ Err unmade.refusal) × (unmade.given ≡ self)) }
+        ensures { MatchResult result (λ play. set_up self ≡ Ok play.pair) (λ unmade. (set_up self ≡ Err unmade.refusal) × (unmade.given ≡ self)) }
     {
         let Whole {
             mut hub_log,
