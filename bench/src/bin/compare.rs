@@ -3,9 +3,9 @@
 //!     compare [N [FIRST]] [open]    the histories of N seeds from FIRST on (100,000 from 0 if left out)
 //!
 //! Each history is rehearsed as it was written, and then damaged: characters of bytes that are written in hexadecimal
-//! digits flipped, lines cut short, repeated, moved, swapped, characters put in and taken out; with
-//! `open`, also such as the pages leave open, and the two take differently. Of the proved library's traces the words in round brackets and
-//! the last line are left out. It prints the first differences, each with a script that was shortened as long as it
+//! digits flipped, lines cut short, repeated, moved, swapped, characters put in and taken out; with `open`, also such
+//! as people seldom type. Of the proved library's traces the words in round brackets and the last line are left out. It
+//! prints the first differences, each with a script that was shortened as long as it
 //! stayed different, and how many there were.
 
 use std::process::ExitCode;
@@ -93,8 +93,7 @@ const CHARACTERS: [&str; 19] = [
     "\0", "\u{e9}",
 ];
 
-/// What the pages leave open, and the two take differently: a sign before a number, and white space that is not all of
-/// ASCII's.
+/// What people seldom type: a sign before a number, and white space that is not all of ASCII's.
 const OPEN: [&str; 5] = ["+", "\u{b}", "\u{85}", "\u{a0}", "\u{2003}"];
 
 /// Flips a bit of a character of one of the lines that have bytes in hexadecimal digits.
