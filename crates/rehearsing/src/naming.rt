@@ -3,12 +3,12 @@ use layout::{Letter, Status};
 use rules::{HubPhase, SeatPhase};
 
 /// The letter as it is printed.
-pub fn letter_of(letter: Letter) -> char {
+pub(crate) fn letter_of(letter: Letter) -> char {
     char::from(u8::from(letter))
 }
 
 /// The letter of a status that was kept, `-` for none.
-pub fn status_of(status: Option<Status>) -> char {
+pub(crate) fn status_of(status: Option<Status>) -> char {
     match status {
         Some(status) => char::from(u8::from(status)),
         None => '-',
@@ -16,7 +16,7 @@ pub fn status_of(status: Option<Status>) -> char {
 }
 
 /// The name of a hub's phase.
-pub fn hub_phase(phase: HubPhase) -> &'static str {
+pub(crate) fn hub_phase(phase: HubPhase) -> &'static str {
     match phase {
         HubPhase::Shut => "Shut",
         HubPhase::Waiting => "Waiting",
@@ -28,7 +28,7 @@ pub fn hub_phase(phase: HubPhase) -> &'static str {
 }
 
 /// The name of a seat's phase.
-pub fn seat_phase(phase: SeatPhase) -> &'static str {
+pub(crate) fn seat_phase(phase: SeatPhase) -> &'static str {
     match phase {
         SeatPhase::Apart => "Apart",
         SeatPhase::Asking => "Asking",

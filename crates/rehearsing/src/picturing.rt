@@ -12,7 +12,7 @@ use std::io;
 use std::io::Write;
 
 /// Writes how a pair stands.
-pub fn show_play<W: Write>(out: &mut W, play: &Play) -> io::Result<()> {
+pub(crate) fn show_play<W: Write>(out: &mut W, play: &Play) -> io::Result<()> {
     show_ends(out, &play.pair)?;
     show_counts(out, " hub-log", &play.hub_log)?;
     show_counts(out, " seat-log", &play.seat_log)?;
@@ -47,7 +47,7 @@ fn show_room<W: Write, L: Line>(out: &mut W, name: &str, line: &L) -> io::Result
 }
 
 /// Writes what waits on two lines.
-pub fn show_wire<W: Write, U: PeekLine, D: PeekLine>(
+pub(crate) fn show_wire<W: Write, U: PeekLine, D: PeekLine>(
     heap: Global,
     out: &mut W,
     up: &U,
@@ -71,7 +71,7 @@ fn show_waiting<W: Write, L: PeekLine>(heap: Global, out: &mut W, line: &L) -> i
 }
 
 /// Writes a log's session and its messages.
-pub fn show_log<W: Write, G: Log>(heap: Global, out: &mut W, log: &G) -> io::Result<()> {
+pub(crate) fn show_log<W: Write, G: Log>(heap: Global, out: &mut W, log: &G) -> io::Result<()> {
     let session = log.session();
     write!(out, "{session}:")?;
     let mut buffer = [0; MESSAGE_LIMIT];

@@ -25,7 +25,7 @@ pub struct Words<'a> {
 
 impl<'a> Words<'a> {
     /// The words of a line.
-    pub fn of(heap: Global, line: &'a str) -> Result<Words<'a>, AllocError> {
+    pub(crate) fn of(heap: Global, line: &'a str) -> Result<Words<'a>, AllocError> {
         let words: Vec<&'a str> = line.split_whitespace().collect(heap)?;
         let bytes = match words.as_slice() {
             [_, word, ..] => bytes_of(heap, word)?,
@@ -50,7 +50,7 @@ fn bytes_of(heap: Global, word: &str) -> Result<Option<Vec<u8>>, AllocError>
 }
 
 /// Whether a line is passed over: one without a word, or with `#` at its front.
-pub fn is_passed_over(words: &[&str]) -> bool {
+pub(crate) fn is_passed_over(words: &[&str]) -> bool {
     match words {
         [] => true,
         [first, ..] => matches!(first.as_bytes(), [b'#', ..]),
@@ -58,7 +58,10 @@ pub fn is_passed_over(words: &[&str]) -> bool {
 }
 
 /// The command of these words, of which the second may write bytes.
-pub fn command_of<'a>(words: &[&'a str], bytes: Option<&'a [u8]>) -> Result<Command<'a>, Malformed>
+pub(crate) fn command_of<'a>(
+    words: &[&'a str],
+    bytes: Option<&'a [u8]>,
+) -> Result<Command<'a>, Malformed>
     ensures { IfOk result (λ command. CommandLine words.now bytes.entry command) }
 {
     match words {

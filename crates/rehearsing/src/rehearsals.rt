@@ -100,7 +100,7 @@ pub struct Rehearsal {
 
 impl Rehearsal {
     /// Before the first line.
-    pub fn new(heap: Global) -> Result<Rehearsal, AllocError> {
+    pub(crate) fn new(heap: Global) -> Result<Rehearsal, AllocError> {
         Ok(Rehearsal {
             stage: Stage::Making(Parts::new(heap)?),
             sums: Sums::new(),
@@ -108,7 +108,7 @@ impl Rehearsal {
     }
 
     /// Does what a line asks for, and writes the line and its answer. A line that is passed over is not written.
-    pub fn take_line<W: Write, S: Shelf>(
+    pub(crate) fn take_line<W: Write, S: Shelf>(
         &mut self,
         heap: Global,
         out: &mut W,
@@ -126,7 +126,7 @@ impl Rehearsal {
     }
 
     /// Does what the words of a line ask for, and writes the answer.
-    pub fn answer<W: Write, S: Shelf>(
+    pub(crate) fn answer<W: Write, S: Shelf>(
         &mut self,
         heap: Global,
         out: &mut W,
@@ -231,7 +231,7 @@ impl Rehearsal {
     }
 
     /// Writes the line that sums up.
-    pub fn sum_up<W: Write>(&self, out: &mut W) -> io::Result<()> {
+    pub(crate) fn sum_up<W: Write>(&self, out: &mut W) -> io::Result<()> {
         let none = Tally::new();
         let (hub, seat) = match &self.stage {
             Stage::Making(_) => (&none, &none),

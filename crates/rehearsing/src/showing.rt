@@ -10,7 +10,7 @@ use std::io;
 use std::io::Write;
 
 /// Writes bytes in pairs of digits, `-` for none.
-pub fn show_bytes<W: Write>(heap: Global, out: &mut W, bytes: &[u8]) -> io::Result<()> {
+pub(crate) fn show_bytes<W: Write>(heap: Global, out: &mut W, bytes: &[u8]) -> io::Result<()> {
     if bytes.is_empty() {
         return out.write_all(b"-");
     }
@@ -18,7 +18,7 @@ pub fn show_bytes<W: Write>(heap: Global, out: &mut W, bytes: &[u8]) -> io::Resu
 }
 
 /// Writes what a call answered.
-pub fn show_answer<W: Write>(out: &mut W, answer: Answer) -> io::Result<()> {
+pub(crate) fn show_answer<W: Write>(out: &mut W, answer: Answer) -> io::Result<()> {
     match answer {
         Answer::Did(Ok(())) => out.write_all(b"ok"),
         Answer::Did(Err(refusal)) => show_refusal(out, refusal),
@@ -32,7 +32,7 @@ pub fn show_answer<W: Write>(out: &mut W, answer: Answer) -> io::Result<()> {
 }
 
 /// Writes why a command was not done; what ends the rehearsal is handed on.
-pub fn show_trouble<W: Write>(out: &mut W, trouble: Trouble) -> io::Result<()> {
+pub(crate) fn show_trouble<W: Write>(out: &mut W, trouble: Trouble) -> io::Result<()> {
     match trouble {
         Trouble::Refused(Refusal::BrokenLog(place)) => write!(
             out,

@@ -19,7 +19,7 @@ pub struct Sums {
 
 impl Sums {
     /// No call yet.
-    pub fn new() -> Sums {
+    pub(crate) fn new() -> Sums {
         Sums {
             calls: 0,
             refused: 0,
@@ -28,7 +28,7 @@ impl Sums {
     }
 
     /// One call more, and its refusal if it was refused.
-    pub fn note(&mut self, refusal: Option<Refusal>) {
+    pub(crate) fn note(&mut self, refusal: Option<Refusal>) {
         self.calls = self.calls.saturating_add(1);
         if let Some(refusal) = refusal {
             self.refused = self.refused.saturating_add(1);
@@ -40,7 +40,12 @@ impl Sums {
 }
 
 /// Writes the line that sums a rehearsal up.
-pub fn show_sums<W: Write>(out: &mut W, sums: &Sums, hub: &Tally, seat: &Tally) -> io::Result<()> {
+pub(crate) fn show_sums<W: Write>(
+    out: &mut W,
+    sums: &Sums,
+    hub: &Tally,
+    seat: &Tally,
+) -> io::Result<()> {
     let calls = sums.calls;
     let granted = calls.saturating_sub(sums.refused);
     let refused = sums.refused;
