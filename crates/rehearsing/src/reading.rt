@@ -1,6 +1,6 @@
 //! From a line to the command that it asks for.
 ghost use Rattle.std.specs.Prelude.{ℕ, IfOk, IfErr, IfSome};
-ghost use Rattle.rehearsing.specs.Lines.{Hexadecimal, Numeral, NumeralUpTo, longest_buffer, most_ticks, LogWords, LineWords, TextWords, PartLine, EndWord, QuestionLine, CallLine, DeedLine, CommandLine};
+ghost use Rattle.rehearsing.specs.Lines.{word, Hexadecimal, Numeral, NumeralUpTo, longest_buffer, most_ticks, LogWords, LineWords, TextWords, PartLine, EndWord, QuestionLine, CallLine, DeedLine, CommandLine};
 
 use crate::commands::{Command, Deed, Question};
 use crate::troubles::Malformed;
@@ -25,7 +25,9 @@ pub struct Words<'a> {
 
 impl<'a> Words<'a> {
     /// The words of a line.
-    pub(crate) fn of(heap: Global, line: &'a str) -> Result<Words<'a>, AllocError> {
+    pub(crate) fn of(heap: Global, line: &'a str) -> Result<Words<'a>, AllocError>
+        ensures { IfOk result (λ w. IfSome w.bytes (λ v. Hexadecimal (word w.words.items 1) v.items)) }
+    {
         let words: Vec<&'a str> = line.split_whitespace().collect(heap)?;
         let bytes = match words.as_slice() {
             [_, word, ..] => bytes_of(heap, word)?,

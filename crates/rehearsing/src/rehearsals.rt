@@ -1,4 +1,7 @@
 //! Rehearsals, line by line.
+ghost use Rattle.std.specs.Prelude.{◌≡◌};
+ghost use Rattle.rehearsing.specs.Deeds.{Performs, Ticks};
+
 use crate::commands::{Command, Deed, Question};
 use crate::picturing::{show_log, show_play, show_wire};
 use crate::reading::{Words, command_of, is_passed_over};
@@ -191,7 +194,9 @@ impl Rehearsal {
     }
 
     // Does something to the pair.
-    fn perform(&mut self, deed: Deed<'_>) -> Result<Answer, Malformed> {
+    fn perform(&mut self, deed: Deed<'_>) -> Result<Answer, Malformed>
+        ensures { Performs self.old.stage deed.entry result self.new.stage }
+    {
         let Stage::Playing(play) = &mut self.stage else {
             return Err(Malformed::NotSetUp);
         };
@@ -242,7 +247,9 @@ impl Rehearsal {
 }
 
 // A call's answer, after it was counted.
-fn noted(sums: &mut Sums, answer: Answer) -> Answer {
+fn noted(sums: &mut Sums, answer: Answer) -> Answer
+    ensures { result ≡ answer }
+{
     sums.note(refusal_of(&answer));
     answer
 }
@@ -259,7 +266,9 @@ fn refusal_of(answer: &Answer) -> Option<Refusal> {
 }
 
 // So many ticks, as long as none is refused.
-fn tick(sums: &mut Sums, play: &mut Play, count: u64) -> Answer {
+fn tick(sums: &mut Sums, play: &mut Play, count: u64) -> Answer
+    ensures { Ticks play.old.pair count result play.new.pair }
+{
     for _ in 0..count {
         if let Answer::Did(Err(refusal)) = noted(sums, play.call(Call::Tick)) {
             return Answer::Did(Err(refusal));
