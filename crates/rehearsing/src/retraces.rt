@@ -1,7 +1,7 @@
 //! Traces, performed again and compared.
-use crate::reading::{Words, is_passed_over};
 use crate::rehearsals::Rehearsal;
 use crate::shelves::Shelf;
+use staging::{Words, is_passed_over};
 use std::alloc::Global;
 use std::io;
 use std::io::{BufRead, Write};

@@ -1,10 +1,10 @@
 //! What calls answer, in words.
 use crate::naming::letter_of;
-use crate::troubles::Trouble;
 use fault::{Fault, LogFault, Refusal};
 use layout::Letter;
 use relay::Answer;
 use rules::{Heard, Received, Report};
+use staging::Trouble;
 use std::alloc::Global;
 use std::io;
 use std::io::Write;

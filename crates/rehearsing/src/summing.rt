@@ -1,43 +1,10 @@
-//! What a rehearsal's calls come to.
+//! The line that sums a rehearsal up.
 use crate::naming::letter_of;
 use capture::Tally;
-use fault::Refusal;
 use layout::LETTERS;
+use staging::Sums;
 use std::io;
 use std::io::Write;
-
-/// The numbers of refusals are below this.
-const NUMBERS: usize = 32;
-
-/// How many calls there were, and how many were refused, by number.
-#[derive(Clone, Copy)]
-pub struct Sums {
-    calls: u64,
-    refused: u64,
-    by_number: [u64; NUMBERS],
-}
-
-impl Sums {
-    /// No call yet.
-    pub(crate) fn new() -> Sums {
-        Sums {
-            calls: 0,
-            refused: 0,
-            by_number: [0; NUMBERS],
-        }
-    }
-
-    /// One call more, and its refusal if it was refused.
-    pub(crate) fn note(&mut self, refusal: Option<Refusal>) {
-        self.calls = self.calls.saturating_add(1);
-        if let Some(refusal) = refusal {
-            self.refused = self.refused.saturating_add(1);
-            if let Some(count) = self.by_number.get_mut(usize::from(refusal.number())) {
-                *count = count.saturating_add(1);
-            }
-        }
-    }
-}
 
 /// Writes the line that sums a rehearsal up.
 pub(crate) fn show_sums<W: Write>(

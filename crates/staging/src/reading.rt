@@ -1,6 +1,6 @@
 //! From a line to the command that it asks for.
 ghost use Rattle.std.specs.Prelude.{ℕ, IfOk, IfErr, IfSome};
-ghost use Rattle.rehearsing.specs.Lines.{word, Hexadecimal, Numeral, NumeralUpTo, longest_buffer, most_ticks, LogWords, LineWords, TextWords, PartLine, EndWord, QuestionLine, CallLine, DeedLine, CommandLine};
+ghost use Rattle.staging.specs.Lines.{word, Hexadecimal, Numeral, NumeralUpTo, longest_buffer, most_ticks, LogWords, LineWords, TextWords, PartLine, EndWord, QuestionLine, CallLine, DeedLine, CommandLine};
 
 use crate::commands::{Command, Deed, Question};
 use crate::troubles::Malformed;
@@ -25,7 +25,7 @@ pub struct Words<'a> {
 
 impl<'a> Words<'a> {
     /// The words of a line.
-    pub(crate) fn of(heap: Global, line: &'a str) -> Result<Words<'a>, AllocError>
+    pub fn of(heap: Global, line: &'a str) -> Result<Words<'a>, AllocError>
         ensures { IfOk result (λ w. IfSome w.bytes (λ v. Hexadecimal (word w.words.items 1) v.items)) }
     {
         let words: Vec<&'a str> = line.split_whitespace().collect(heap)?;
@@ -52,7 +52,7 @@ fn bytes_of(heap: Global, word: &str) -> Result<Option<Vec<u8>>, AllocError>
 }
 
 /// Whether a line is passed over: one without a word, or with `#` at its front.
-pub(crate) fn is_passed_over(words: &[&str]) -> bool {
+pub fn is_passed_over(words: &[&str]) -> bool {
     match words {
         [] => true,
         [first, ..] => matches!(first.as_bytes(), [b'#', ..]),
@@ -60,10 +60,7 @@ pub(crate) fn is_passed_over(words: &[&str]) -> bool {
 }
 
 /// The command of these words, of which the second may write bytes.
-pub(crate) fn command_of<'a>(
-    words: &[&'a str],
-    bytes: Option<&'a [u8]>,
-) -> Result<Command<'a>, Malformed>
+pub fn command_of<'a>(words: &[&'a str], bytes: Option<&'a [u8]>) -> Result<Command<'a>, Malformed>
     ensures { IfOk result (λ command. CommandLine words.now bytes.entry command) }
 {
     match words {

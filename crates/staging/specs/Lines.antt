@@ -17,12 +17,12 @@ use Rattle.playing.specs.declared.forms.LineForm.TheVariants as L
 use Rattle.playing.specs.declared.forms.Texts.{Texts}
 use Rattle.playing.specs.declared.forms.Part.{Part}
 use Rattle.playing.specs.declared.forms.Part.TheVariants as P
-use Rattle.rehearsing.specs.declared.commands.Deed.{Deed}
-use Rattle.rehearsing.specs.declared.commands.Deed.TheVariants as D
-use Rattle.rehearsing.specs.declared.commands.Question.{Question}
-use Rattle.rehearsing.specs.declared.commands.Question.TheVariants as Q
-use Rattle.rehearsing.specs.declared.commands.Command.{Command}
-use Rattle.rehearsing.specs.declared.commands.Command.TheVariants as M
+use Rattle.staging.specs.declared.commands.Deed.{Deed}
+use Rattle.staging.specs.declared.commands.Deed.TheVariants as D
+use Rattle.staging.specs.declared.commands.Question.{Question}
+use Rattle.staging.specs.declared.commands.Question.TheVariants as Q
+use Rattle.staging.specs.declared.commands.Command.{Command}
+use Rattle.staging.specs.declared.commands.Command.TheVariants as M
 
 -- the words of a line
 abbrev pub Words : Type 0

@@ -1,0 +1,159 @@
+//! How far a rehearsal is, and what its commands do.
+ghost use Rattle.std.specs.Prelude.{◌≡◌};
+ghost use Rattle.staging.specs.Deeds.{Performs, Ticks, refusal_in};
+
+use crate::commands::Deed;
+use crate::sums::Sums;
+use crate::troubles::{Malformed, Trouble};
+use any_line::AnyLine;
+use any_log::AnyLog;
+use fault::Refusal;
+use playing::{End, Part, Parts, Play};
+use relay::{Answer, Call};
+use std::alloc::{AllocError, Global};
+use std::mem;
+use tapped::Tapped;
+
+/// How far a rehearsal is.
+#[derive(Drop)]
+pub enum Stage {
+    /// Parts are made.
+    Making(Parts),
+    /// The pair is set up.
+    Playing(Play),
+}
+
+impl Stage {
+    /// Before the first part is made.
+    pub fn new(heap: Global) -> Result<Stage, AllocError> {
+        Ok(Stage::Making(Parts::new(heap)?))
+    }
+
+    /// Makes a part, as long as there is no pair.
+    pub fn make(&mut self, heap: Global, part: Part<'_>) -> Result<(), Trouble> {
+        match self {
+            Stage::Making(parts) => Ok(parts.make(heap, part)?),
+            Stage::Playing(_) => Err(Trouble::Malformed(Malformed::SetUp)),
+        }
+    }
+
+    /// Sets the pair up of the parts that were made.
+    pub fn set_up(&mut self, heap: Global) -> Result<(), Trouble> {
+        let stage = mem::replace(self, Stage::Making(Parts::none(heap)));
+        let (stage, answer) = stage.paired();
+        *self = stage;
+        answer
+    }
+
+    /// Does something to the pair, and counts it.
+    pub fn perform(&mut self, deed: Deed<'_>, sums: &mut Sums) -> Result<Answer, Malformed>
+        ensures { Performs self.old deed.entry result self.new }
+    {
+        let Stage::Playing(play) = self else {
+            return Err(Malformed::NotSetUp);
+        };
+        match deed {
+            Deed::Call(call) => Ok(noted(sums, play.call(call))),
+            Deed::Ticks(count) => Ok(tick(sums, play, count)),
+            Deed::Level(way) => Ok(noted(sums, Answer::Did(play.level(way)))),
+            Deed::Stranger(side, bytes) => Ok(Answer::Did(play.meddle(side, bytes))),
+        }
+    }
+
+    // Set up, if all parts are made and nothing is refused.
+    fn paired(self) -> (Stage, Result<(), Trouble>) {
+        let parts = match self {
+            Stage::Making(parts) => parts,
+            playing => return (playing, Err(Trouble::Malformed(Malformed::SetUp))),
+        };
+        match parts.whole() {
+            Ok(whole) => match whole.set_up() {
+                Ok(play) => (Stage::Playing(play), Ok(())),
+                Err(unmade) => (
+                    Stage::Making(Parts::from(unmade.given)),
+                    Err(Trouble::Refused(unmade.refusal)),
+                ),
+            },
+            Err(parts) => (
+                Stage::Making(parts),
+                Err(Trouble::Malformed(Malformed::NotMade)),
+            ),
+        }
+    }
+
+    /// The two lines, if both are made.
+    pub fn lines(&self) -> Result<(&Tapped<AnyLine>, &Tapped<AnyLine>), Malformed> {
+        match self {
+            Stage::Making(
+                Parts {
+                    up: Some(up),
+                    down: Some(down),
+                    ..
+                },
+            ) => Ok((up, down)),
+            Stage::Making(_) => Err(Malformed::NotMade),
+            Stage::Playing(play) => Ok((&play.up, &play.down)),
+        }
+    }
+
+    /// The log of an end, if it is made.
+    pub fn log(&self, end: End) -> Result<&AnyLog, Malformed> {
+        match (self, end) {
+            (Stage::Making(parts), End::Hub) => parts.hub_log.as_ref().ok_or(Malformed::NotMade),
+            (Stage::Making(parts), End::Seat) => parts.seat_log.as_ref().ok_or(Malformed::NotMade),
+            (Stage::Playing(play), End::Hub) => Ok(&play.hub_log),
+            (Stage::Playing(play), End::Seat) => Ok(&play.seat_log),
+        }
+    }
+
+    /// The first bytes of the outgoing buffer.
+    pub fn out(&self, count: usize) -> Result<&[u8], Malformed> {
+        let buffers = match self {
+            Stage::Making(parts) => &parts.buffers,
+            Stage::Playing(play) => &play.buffers,
+        };
+        buffers.out.get(..count).ok_or(Malformed::PastTheBuffer)
+    }
+
+    /// The saved form of an end's log.
+    pub fn saved(&self, end: End) -> Result<&[u8], Malformed> {
+        match self.log(end)? {
+            AnyLog::Journal(journal) => Ok(journal.bytes()),
+            AnyLog::Indexed(_) => Err(Malformed::NotSaved),
+        }
+    }
+}
+
+// A call's answer, after it was counted.
+fn noted(sums: &mut Sums, answer: Answer) -> Answer
+    ensures { result ≡ answer }
+{
+    sums.note(refusal_of(&answer));
+    answer
+}
+
+// Why a call was refused, if it was.
+fn refusal_of(answer: &Answer) -> Option<Refusal>
+    ensures { result ≡ refusal_in answer.now }
+{
+    match answer {
+        Answer::Did(Err(refusal))
+        | Answer::Took(Err(refusal))
+        | Answer::Put(Err(refusal))
+        | Answer::Went(Err(refusal)) => Some(*refusal),
+        _ => None,
+    }
+}
+
+// So many ticks, as long as none is refused.
+fn tick(sums: &mut Sums, play: &mut Play, count: u64) -> Answer
+    ensures { Ticks play.old.pair count result play.new.pair }
+{
+    for _ in 0..count {
+        let answer = noted(sums, play.call(Call::Tick));
+        if refusal_of(&answer).is_some() {
+            return answer;
+        }
+    }
+    Answer::Did(Ok(()))
+}

@@ -1,0 +1,35 @@
+//! What a rehearsal's calls come to.
+use fault::Refusal;
+
+/// The numbers of refusals are below this.
+const NUMBERS: usize = 32;
+
+/// How many calls there were, and how many were refused, by number.
+#[derive(Clone, Copy)]
+pub struct Sums {
+    pub calls: u64,
+    pub refused: u64,
+    pub by_number: [u64; NUMBERS],
+}
+
+impl Sums {
+    /// No call yet.
+    pub fn new() -> Sums {
+        Sums {
+            calls: 0,
+            refused: 0,
+            by_number: [0; NUMBERS],
+        }
+    }
+
+    /// One call more, and its refusal if it was refused.
+    pub fn note(&mut self, refusal: Option<Refusal>) {
+        self.calls = self.calls.saturating_add(1);
+        if let Some(refusal) = refusal {
+            self.refused = self.refused.saturating_add(1);
+            if let Some(count) = self.by_number.get_mut(usize::from(refusal.number())) {
+                *count = count.saturating_add(1);
+            }
+        }
+    }
+}
