@@ -1,5 +1,5 @@
 //! What is asked of such messages, and one message more.
-ghost use Rattle.std.specs.Prelude.{◌≡◌, ◌+◌, ◌≤◌, ◌++◌, Ok, length, vec_len, slice_set};
+ghost use Rattle.std.specs.Prelude.{◌≡◌, ◌+◌, ◌≤◌, [], ◌∷◌, ◌++◌, Ok, length, vec_len};
 ghost use Rattle.std.specs.List.{between};
 ghost use Rattle.memory.specs.Memory.{laid};
 ghost use Rattle.message_log.specs.Meaning.{count, begun, added};
@@ -17,21 +17,21 @@ impl<const BASE: usize, const GAP: usize> Parts<BASE, GAP> {
     pub fn count(&self) -> usize
         ensures { result ≡ count (kept BASE GAP self.now) }
     {
-        self.count
+        self.ends.len()
     }
 
     /// How far the bytes are used: to the end of the last message.
     pub fn used(&self) -> usize
         ensures { result ≡ used BASE GAP self.now }
     {
-        edge_at(BASE, &self.ends, self.count)
+        edge_at(BASE, &self.ends, self.ends.len())
     }
 
     /// Where message n begins with its gap.
     pub fn place(&self, n: usize) -> Result<usize, Refusal>
         ensures { result ≡ placed BASE (kept BASE GAP self.now) n }
     {
-        if n == 0 || n > self.count {
+        if n == 0 || n > self.ends.len() {
             return Err(Refusal::NoSuchMessage);
         }
         Ok(edge_at(BASE, &self.ends, n - 1))
@@ -53,7 +53,7 @@ impl<const BASE: usize, const GAP: usize> Parts<BASE, GAP> {
         let space = Space {
             session: self.session,
             room: self.memory.len() - self.used(),
-            places: self.ends.len() - self.count,
+            places: self.places - self.ends.len(),
             overhead: GAP,
         };
         space.judge(bytes)
@@ -64,7 +64,7 @@ impl<const BASE: usize, const GAP: usize> Parts<BASE, GAP> {
         requires { at + length piece.now ≤ vec_len self.old.memory }
         ensures memory { self.new.memory.items ≡ laid self.old.memory.items at piece.now }
         ensures ends { self.new.ends ≡ self.old.ends }
-        ensures count { self.new.count ≡ self.old.count }
+        ensures places { self.new.places ≡ self.old.places }
         ensures session { self.new.session ≡ self.old.session }
     {
         lay(&mut self.memory, at, piece);
@@ -82,21 +82,20 @@ impl<const BASE: usize, const GAP: usize> Parts<BASE, GAP> {
         }
         self.lay_in(0, &front);
         self.session = session;
-        self.count = 0;
+        self.ends.clear();
         Ok(())
     }
 
     /// Notes where a message of so many bytes ends that lies behind the last one and its own gap.
     fn note(&mut self, bytes: usize)
         requires { takes (kept BASE GAP self.old) bytes ≡ Ok tt }
-        ensures ends { self.new.ends.items ≡ slice_set self.old.ends.items self.old.count (used BASE GAP self.old + GAP + bytes) }
-        ensures count { self.new.count ≡ self.old.count + 1 }
+        ensures ends { self.new.ends.items ≡ self.old.ends.items ++ (used BASE GAP self.old + GAP + bytes) ∷ [] }
+        ensures places { self.new.places ≡ self.old.places }
         ensures memory { self.new.memory ≡ self.old.memory }
         ensures session { self.new.session ≡ self.old.session }
     {
         let end = self.used() + GAP + bytes;
-        self.ends[self.count] = end as u32;
-        self.count += 1;
+        self.ends.push_reserved(end as u32);
     }
 
     /// Takes in the message of so many bytes that lies behind the last one and its own gap.

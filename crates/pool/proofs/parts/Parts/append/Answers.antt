@@ -31,6 +31,6 @@ returns-clause-after g c =
     let mem = laid s.memory.items u (a ++ m) in
     let same = take_laid s.memory.items u (a ++ m) (omega arith) in
     let put = between_both s.memory.items a m u (u + g.row.GAP) e (omega arith) refl fit.1 in
-    let more = parts_more_kept g.row.BASE g.row.GAP s mem m e ok refl same put in
+    let more = parts_more_kept g.row.BASE g.row.GAP s mem m e refl same put in
     let long = length_laid s.memory.items u (a ++ m) (omega arith) in
-    kept_more g.row.BASE g.row.GAP s q.session q.count q.memory.items q.ends.items mem m e (cc) (returns-clause-memory g c) long (cc) (cc) more
+    kept_more g.row.BASE g.row.GAP s q.session q.places q.memory.items q.ends.items mem m e (cc) (returns-clause-memory g c) long (cc) (cc) more
