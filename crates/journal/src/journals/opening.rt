@@ -1,6 +1,9 @@
 //! Making and opening a journal.
-ghost use Rattle.std.specs.Prelude.{◌≡◌, ℕ, ◌≤◌, true, List, [], take, vec_len, vec_capacity, MatchResult};
+ghost use Rattle.std.specs.Prelude.{◌≡◌, ℕ, ◌+◌, ◌≤◌, true, List, [], Ok, take, vec_len, vec_capacity, MatchResult};
+ghost use Rattle.std.specs.List.{between};
 ghost use Rattle.fault.specs.declared.refusals.Refusal.TheVariants as R;
+ghost use Rattle.message_log.specs.Meaning.{added};
+ghost use Rattle.message_log.specs.Calls.{takes};
 ghost use Rattle.record.specs.Format.{saved};
 ghost use Rattle.pool.specs.Kept.{kept, used as end_of};
 ghost use Rattle.journal.specs.Layout.{base, gap, makes, places_of, journal, Formed, Indexed};
@@ -46,6 +49,21 @@ fn with_index(
     }
 }
 
+/// Notes that the record at `at`, behind the last message, has a body of so many bytes, and tells where it ends. It was
+/// read, so it fits, and is not judged again as a message that is appended.
+fn note(parts: &mut Parts<JOURNAL_LEAST, RECORD_HEAD>, at: usize, length: usize) -> usize
+    requires behind { at ≡ end_of base gap parts.old }
+    requires fits { takes (kept base gap parts.old) length ≡ Ok tt }
+    ensures end { result ≡ at + gap + length }
+    ensures used { end_of base gap parts.new ≡ result }
+    ensures after { let start = end_of base gap parts.old + gap in kept base gap parts.new ≡ added (kept base gap parts.old) (between start (start + length) parts.old.memory.items) }
+    ensures memory { parts.new.memory ≡ parts.old.memory }
+{
+    let end = at + RECORD_HEAD + length;
+    parts.ends.push_reserved(end as u32);
+    end
+}
+
 /// Reads the records in the first `used` bytes and takes in what they hold.
 fn walk(parts: &mut Parts<JOURNAL_LEAST, RECORD_HEAD>, used: usize) -> Result<(), Refusal>
     requires within { used ≤ vec_len parts.old.memory }
@@ -58,13 +76,13 @@ fn walk(parts: &mut Parts<JOURNAL_LEAST, RECORD_HEAD>, used: usize) -> Result<()
         return Err(Refusal::BrokenLog(0));
     };
     parts.session = session;
-    while parts.used() < used {
-        let at = parts.used();
+    let mut at = JOURNAL_LEAST;
+    while at < used {
         let Ok(message) = read_message(&parts.memory[at..used], session) else {
             return Err(Refusal::BrokenLog(at));
         };
         let length = message.len();
-        parts.take_in(length)?;
+        at = note(parts, at, length);
     }
     Ok(())
 }

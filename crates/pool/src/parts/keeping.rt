@@ -1,6 +1,5 @@
 //! What is asked of such messages, and one message more.
 ghost use Rattle.std.specs.Prelude.{◌≡◌, ◌+◌, ◌≤◌, [], ◌∷◌, ◌++◌, Ok, length, vec_len};
-ghost use Rattle.std.specs.List.{between};
 ghost use Rattle.memory.specs.Memory.{laid};
 ghost use Rattle.message_log.specs.Meaning.{count, begun, added};
 ghost use Rattle.message_log.specs.Calls.{Lent, takes, begins, settled};
@@ -96,18 +95,6 @@ impl<const BASE: usize, const GAP: usize> Parts<BASE, GAP> {
     {
         let end = self.used() + GAP + bytes;
         self.ends.push_reserved(end as u32);
-    }
-
-    /// Takes in the message of so many bytes that lies behind the last one and its own gap.
-    pub fn take_in(&mut self, bytes: usize) -> Result<(), Refusal>
-        ensures value { result ≡ takes (kept BASE GAP self.old) bytes }
-        ensures after { let start = used BASE GAP self.old + GAP in kept BASE GAP self.new ≡ settled result (added (kept BASE GAP self.old) (between start (start + bytes) self.old.memory.items)) (kept BASE GAP self.old) }
-        ensures memory { self.new.memory ≡ self.old.memory }
-        ensures used { used BASE GAP self.new ≡ settled result (used BASE GAP self.old + GAP + bytes) (used BASE GAP self.old) }
-    {
-        self.would_take(bytes)?;
-        self.note(bytes);
-        Ok(())
     }
 
     /// Adds a message at the end, with these bytes in its gap.
