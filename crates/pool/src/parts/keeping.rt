@@ -1,5 +1,5 @@
 //! What is asked of such messages, and one message more.
-ghost use Rattle.std.specs.Prelude.{◌≡◌, ◌+◌, ◌≤◌, [], ◌∷◌, ◌++◌, Ok, length, vec_len};
+ghost use Rattle.std.specs.Prelude.{◌≡◌, ◌+◌, ◌≤◌, [], ◌∷◌, ◌++◌, Ok, Err, length, vec_len, MatchResult};
 ghost use Rattle.memory.specs.Memory.{laid};
 ghost use Rattle.message_log.specs.Meaning.{count, begun, added};
 ghost use Rattle.message_log.specs.Calls.{Lent, takes, begins, settled};
@@ -45,17 +45,25 @@ impl<const BASE: usize, const GAP: usize> Parts<BASE, GAP> {
         Ok(&self.memory[start..end])
     }
 
+    /// Judges a message of so many bytes: where it would begin with its gap, or why it is not taken.
+    fn judge(&self, bytes: usize) -> Result<usize, Refusal>
+        ensures { MatchResult result (λ at. (at ≡ used BASE GAP self.now) × (takes (kept BASE GAP self.now) bytes ≡ Ok tt)) (λ refusal. takes (kept BASE GAP self.now) bytes ≡ Err refusal) }
+    {
+        let at = self.used();
+        let space = Space {
+            session: self.session,
+            room: self.memory.len() - at,
+            places: self.places - self.ends.len(),
+            overhead: GAP,
+        };
+        space.judge(bytes).map(|()| at)
+    }
+
     /// Whether a message of so many bytes would be taken, and if not why.
     pub fn would_take(&self, bytes: usize) -> Result<(), Refusal>
         ensures { result ≡ takes (kept BASE GAP self.now) bytes }
     {
-        let space = Space {
-            session: self.session,
-            room: self.memory.len() - self.used(),
-            places: self.places - self.ends.len(),
-            overhead: GAP,
-        };
-        space.judge(bytes)
+        self.judge(bytes).map(|_| ())
     }
 
     /// Lays a piece over the bytes from `at` on.
@@ -85,15 +93,16 @@ impl<const BASE: usize, const GAP: usize> Parts<BASE, GAP> {
         Ok(())
     }
 
-    /// Notes where a message of so many bytes ends that lies behind the last one and its own gap.
-    fn note(&mut self, bytes: usize)
-        requires { takes (kept BASE GAP self.old) bytes ≡ Ok tt }
-        ensures ends { self.new.ends.items ≡ self.old.ends.items ++ (used BASE GAP self.old + GAP + bytes) ∷ [] }
+    /// Notes where a message of so many bytes ends that lies at `at`, behind the last one, with its gap.
+    fn note(&mut self, at: usize, bytes: usize)
+        requires behind { at ≡ used BASE GAP self.old }
+        requires fits { takes (kept BASE GAP self.old) bytes ≡ Ok tt }
+        ensures ends { self.new.ends.items ≡ self.old.ends.items ++ (at + GAP + bytes) ∷ [] }
         ensures places { self.new.places ≡ self.old.places }
         ensures memory { self.new.memory ≡ self.old.memory }
         ensures session { self.new.session ≡ self.old.session }
     {
-        let end = self.used() + GAP + bytes;
+        let end = at + GAP + bytes;
         self.ends.push_reserved(end as u32);
     }
 
@@ -104,9 +113,8 @@ impl<const BASE: usize, const GAP: usize> Parts<BASE, GAP> {
         ensures memory { self.new.memory.items ≡ settled result (laid self.old.memory.items (used BASE GAP self.old) (head.entry ++ message.now)) self.old.memory.items }
         ensures used { used BASE GAP self.new ≡ settled result (used BASE GAP self.old + GAP + length message.now) (used BASE GAP self.old) }
     {
-        self.would_take(message.len())?;
-        let at = self.used();
-        self.note(message.len());
+        let at = self.judge(message.len())?;
+        self.note(at, message.len());
         self.lay_in(at, &head);
         self.lay_in(at + GAP, message);
         Ok(())
