@@ -24,7 +24,7 @@ pub const TABLE_LIMIT: usize = 1_048_576;
 #[derive(Drop)]
 pub struct Indexed {
     parts: Parts<0, 0>,
-    ghost few: { vec_len parts.ends ≤ places_limit },
+    ghost few: { parts.places ≤ places_limit },
 }
 
 impl Indexed {
@@ -33,13 +33,16 @@ impl Indexed {
         ensures { MatchResult result (λ l. (makes (vec_len pool) (vec_len ends) ≡ true) × (⟦<Indexed as Log>⟧.view l ≡ pooled 0 pool.items ends.items 0)) (λ u. (makes (vec_len pool) (vec_len ends) ≡ false) × (u.refusal ≡ R.SizeOutOfRange) × (u.given ≡ (pool, ends))) }
     {
         let fits = pool.len() <= POOL_LIMIT && ends.len() <= TABLE_LIMIT;
-        let (pool, ends) = allow(fits, (pool, ends))?;
+        let (pool, mut ends) = allow(fits, (pool, ends))?;
+        // The table gives its room: an entry of its length is a place, and a cleared table keeps its capacity.
+        let places = ends.len();
+        ends.clear();
         Ok(Indexed {
             parts: Parts {
                 memory: pool,
                 ends,
+                places,
                 session: 0,
-                count: 0,
             },
         })
     }

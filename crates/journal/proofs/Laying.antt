@@ -64,8 +64,8 @@ message_laid mem m used at s bytes w e =
     (omega arith, sym (take-take (4 + length m) (used - at) (drop at mem) inside) ∙ (ap (take (4 + length m)) was.0 ∙ take_at (message_record m) rest (4 + length m) (omega arith)), was.1, was.2)
 
 -- what such messages are is what a log can hold
-pub savable_kept : (p : Parts base gap) → Savable p.session (parts p.memory.items (edge base p.ends.items) gap p.count)
-savable_kept p = record { short = short_parts p.memory.items (edge base p.ends.items) gap p.count p.rising (within_kept base gap p); silent = λ z. ap (parts p.memory.items (edge base p.ends.items) gap) (p.silent z) }
+pub savable_kept : (p : Parts base gap) → Savable p.session (parts p.memory.items (edge base p.ends.items) gap (length p.ends.items))
+savable_kept p = record { short = short_parts p.memory.items (edge base p.ends.items) gap (length p.ends.items) p.rising (within_kept base gap p); silent = λ z. ap (parts p.memory.items (edge base p.ends.items) gap) (p.silent z) }
 
 -- the saved form after a call that changes the log to l and the bytes to memory', u of them in use
 pub formed_settled : (r : Result (Unit {0}) Refusal) (p q : Parts base gap) (l : Meaning) (memory' : List ℕ) (u : ℕ) → kept base gap q ≡ settled r l (kept base gap p) → q.memory.items ≡ settled r memory' p.memory.items → used base gap q ≡ settled r u (used base gap p) → Formed p → (r ≡ Ok tt → take u memory' ≡ saved l.session l.messages) → Formed q
@@ -81,20 +81,20 @@ pub broken_later : (p : Parts base gap) (end at s : ℕ) (f : RecordFault) → F
 broken_later p end at s f form bears is lt w bad =
     let mem = p.memory.items in
     let long = length-take-le end mem w in
-    let front : take at (take end mem) ≡ saved p.session (parts mem (edge base p.ends.items) gap p.count) = take-take at end mem (omega arith) ∙ (ap (λ k. take k mem) is ∙ form) in
+    let front : take at (take end mem) ≡ saved p.session (parts mem (edge base p.ends.items) gap (length p.ends.items)) = take-take at end mem (omega arith) ∙ (ap (λ k. take k mem) is ∙ form) in
     later p.session _ at f (savable_kept p) front (omega arith) (ap (message_of p.session) (sym (between_is mem at end)) ∙ (ap (λ k. message_of k (between at end mem)) bears ∙ bad))
 
 -- behind these messages stands the record of m: it is taken in
-pub next_kept : (p : Parts base gap) (end at s : ℕ) (m : List ℕ) → Formed p → Indexed p → p.session ≡ s → at ≡ used base gap p → end ≤ length p.memory.items → message_of s (between at end p.memory.items) ≡ Ok m → (takes (kept base gap p) (length m) ≡ Ok tt) × (used base gap p + gap + length m ≤ end) × (take (used base gap p + gap + length m) p.memory.items ≡ saved p.session (parts p.memory.items (edge base p.ends.items) gap p.count ++ between (used base gap p + gap) (used base gap p + gap + length m) p.memory.items ∷ []))
+pub next_kept : (p : Parts base gap) (end at s : ℕ) (m : List ℕ) → Formed p → Indexed p → p.session ≡ s → at ≡ used base gap p → end ≤ length p.memory.items → message_of s (between at end p.memory.items) ≡ Ok m → (takes (kept base gap p) (length m) ≡ Ok tt) × (used base gap p + gap + length m ≤ end) × (take (used base gap p + gap + length m) p.memory.items ≡ saved p.session (parts p.memory.items (edge base p.ends.items) gap (length p.ends.items) ++ between (used base gap p + gap) (used base gap p + gap + length m) p.memory.items ∷ []))
 next_kept p end at s m form indexed bears is w ok =
     let mem = p.memory.items in
     let u = used base gap p in
     let e = u + gap + length m in
-    let ms = parts mem (edge base p.ends.items) gap p.count in
+    let ms = parts mem (edge base p.ends.items) gap (length p.ends.items) in
     let here = message_laid mem m end at s p.bytes w ok in
     let record_at : take (4 + length m) (drop u mem) ≡ message_record m = ap (λ k. take (4 + length m) (drop k mem)) (sym is) ∙ here.1 in
     let body = body_is mem m u e record_at refl in
-    let low = edge_low (edge base p.ends.items) p.count p.rising in
+    let low = edge_low (edge base p.ends.items) (length p.ends.items) p.rising in
     let both : e ≡ u + (4 + length m) = omega arith in (
       taken_kept base gap p (length m) here.2 (omega arith) (omega arith) (omega arith),
       omega arith,

@@ -39,8 +39,8 @@ placed l n = placed_behind base l n
 
 -- the index has a place for each message that there can be
 abbrev pub Indexed : Parts base gap → Type 0
-Indexed p = length p.ends.items ≡ places_of (length p.memory.items)
+Indexed p = p.places ≡ places_of (length p.memory.items)
 
 -- the bytes in use are the saved form of what the index finds
 abbrev pub Formed : Parts base gap → Type 0
-Formed p = take (used base gap p) p.memory.items ≡ saved p.session (parts p.memory.items (edge base p.ends.items) gap p.count)
+Formed p = take (used base gap p) p.memory.items ≡ saved p.session (parts p.memory.items (edge base p.ends.items) gap (length p.ends.items))

@@ -9,11 +9,11 @@ use Rattle.pool.specs.declared.parts.Parts.{Parts}
 
 -- how far the bytes are used
 abbrev pub used : (base gap : ℕ) → Parts base gap → ℕ
-used base gap p = edge base p.ends.items p.count
+used base gap p = edge base p.ends.items (length p.ends.items)
 
--- the size is what lies behind the base, and a place is an entry of the table
+-- the size is what lies behind the base, and each end is that of a message
 abbrev pub kept : (base gap : ℕ) → Parts base gap → Meaning
-kept base gap p = filed p.session p.memory.items (edge base p.ends.items) gap (length p.memory.items - base) (length p.ends.items) p.count
+kept base gap p = filed p.session p.memory.items (edge base p.ends.items) gap (length p.memory.items - base) p.places (length p.ends.items)
 
 -- where message n begins with its gap: behind the base and the messages before it
 abbrev pub placed : ℕ → Meaning → ℕ → Result ℕ Refusal

@@ -1,5 +1,5 @@
 //! Messages in one run of bytes, one behind the other.
-ghost use Rattle.std.specs.Prelude.{◌≡◌, ◌<◌, ◌≤◌, vec_len};
+ghost use Rattle.std.specs.Prelude.{◌≡◌, ◌<◌, ◌≤◌, length, vec_len, vec_capacity};
 ghost use Rattle.message_log.specs.Meaning.{size_limit};
 ghost use Rattle.pool.specs.Bytes.{Bytes};
 ghost use Rattle.pool.specs.Parts.{edge, Rising};
@@ -12,22 +12,23 @@ pub mod keeping;
 pub struct Parts<const BASE: usize, const GAP: usize> {
     /// The run of bytes.
     pub memory: Vec<u8>,
-    // Memory and table are given whole when a log is made, and nothing is allocated later: so the ends stand in the
-    // front of a table that keeps its length.
+    // The table holds the ends that there are. It is given with room for an end of each place when a log is made, and
+    // nothing is allocated later.
     /// Where each message ends.
     pub ends: Vec<u32>,
+    /// How many messages there can be.
+    pub places: usize,
     /// The session, or 0 for none.
     pub session: u8,
-    /// How many messages there are.
-    pub count: usize,
     ghost large: { BASE ≤ vec_len memory },
     ghost small: { vec_len memory ≤ size_limit },
-    ghost few: { vec_len ends ≤ size_limit },
-    ghost placed: { count ≤ vec_len ends },
-    ghost rising: { Rising (edge BASE ends.items) GAP count },
-    ghost within: { edge BASE ends.items count ≤ vec_len memory },
+    ghost few: { places ≤ size_limit },
+    ghost reserved: { places ≤ vec_capacity ends },
+    ghost placed: { length ends.items ≤ places },
+    ghost rising: { Rising (edge BASE ends.items) GAP (length ends.items) },
+    ghost within: { edge BASE ends.items (length ends.items) ≤ vec_len memory },
     // The types say the next two, but a law, as that of every log, sees numbers alone.
     ghost bytes: { Bytes memory.items },
     ghost byte: { session < 256 },
-    ghost silent: { (session ≡ 0 → count ≡ 0) },
+    ghost silent: { (session ≡ 0 → length ends.items ≡ 0) },
 }

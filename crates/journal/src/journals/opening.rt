@@ -1,6 +1,9 @@
 //! Making and opening a journal.
-ghost use Rattle.std.specs.Prelude.{◌≡◌, ℕ, ◌≤◌, true, List, [], take, vec_len, MatchResult};
+ghost use Rattle.std.specs.Prelude.{◌≡◌, ℕ, ◌+◌, ◌≤◌, true, List, [], Ok, take, vec_len, vec_capacity, MatchResult};
+ghost use Rattle.std.specs.List.{between};
 ghost use Rattle.fault.specs.declared.refusals.Refusal.TheVariants as R;
+ghost use Rattle.message_log.specs.Meaning.{added};
+ghost use Rattle.message_log.specs.Calls.{takes};
 ghost use Rattle.record.specs.Format.{saved};
 ghost use Rattle.pool.specs.Kept.{kept, used as end_of};
 ghost use Rattle.journal.specs.Layout.{base, gap, makes, places_of, journal, Formed, Indexed};
@@ -14,23 +17,31 @@ use pool::Parts;
 use record::{read_message, read_session};
 use std::alloc::Global;
 
-/// An index for the messages that a journal of so many bytes can hold.
+/// An index with room for the messages that a journal of so many bytes can hold.
 fn index(heap: Global, len: usize) -> Result<Vec<u32>, Refusal>
-    ensures { MatchResult result (λ v. (makes len ≡ true) × (vec_len v ≡ places_of len)) (λ e. Unmakable len e) }
+    ensures { MatchResult result (λ v. (makes len ≡ true) × (v.items ≡ []) × (vec_capacity v ≡ places_of len)) (λ e. Unmakable len e) }
 {
     if len < JOURNAL_LEAST || len > JOURNAL_LIMIT {
         return Err(Refusal::SizeOutOfRange);
     }
-    Ok(vec![in heap; 0u32; (len - JOURNAL_LEAST) / RECORD_HEAD]?)
+    Ok(Vec::with_capacity(heap, (len - JOURNAL_LEAST) / RECORD_HEAD)?)
 }
 
-/// This memory, with an index beside it.
-fn with_index(heap: Global, memory: Vec<u8>) -> Result<(Vec<u8>, Vec<u32>), Unmade<Vec<u8>>>
-    ensures { MatchResult result (λ p. (p.0 ≡ memory) × (makes (vec_len memory) ≡ true) × (vec_len p.1 ≡ places_of (vec_len memory))) (λ u. (u.given ≡ memory) × Unmakable (vec_len memory) u.refusal) }
+/// This memory with an empty index beside it, and no session.
+fn with_index(
+    heap: Global,
+    memory: Vec<u8>,
+) -> Result<Parts<JOURNAL_LEAST, RECORD_HEAD>, Unmade<Vec<u8>>>
+    ensures { MatchResult result (λ p. (p.memory ≡ memory) × (makes (vec_len memory) ≡ true) × Indexed p × (p.ends.items ≡ []) × (p.session ≡ 0)) (λ u. (u.given ≡ memory) × Unmakable (vec_len memory) u.refusal) }
 {
     // No `map_err`: both arms hand the memory on, and a closure would have taken it.
     match index(heap, memory.len()) {
-        Ok(ends) => Ok((memory, ends)),
+        Ok(ends) => Ok(Parts {
+            memory,
+            places: ends.capacity(),
+            ends,
+            session: 0,
+        }),
         Err(refusal) => Err(Unmade {
             refusal,
             given: memory,
@@ -38,11 +49,26 @@ fn with_index(heap: Global, memory: Vec<u8>) -> Result<(Vec<u8>, Vec<u32>), Unma
     }
 }
 
+/// Notes that the record at `at`, behind the last message, has a body of so many bytes, and tells where it ends. It was
+/// read, so it fits, and is not judged again as a message that is appended.
+fn note(parts: &mut Parts<JOURNAL_LEAST, RECORD_HEAD>, at: usize, length: usize) -> usize
+    requires behind { at ≡ end_of base gap parts.old }
+    requires fits { takes (kept base gap parts.old) length ≡ Ok tt }
+    ensures end { result ≡ at + gap + length }
+    ensures used { end_of base gap parts.new ≡ result }
+    ensures after { let start = end_of base gap parts.old + gap in kept base gap parts.new ≡ added (kept base gap parts.old) (between start (start + length) parts.old.memory.items) }
+    ensures memory { parts.new.memory ≡ parts.old.memory }
+{
+    let end = at + RECORD_HEAD + length;
+    parts.ends.push_reserved(end as u32);
+    end
+}
+
 /// Reads the records in the first `used` bytes and takes in what they hold.
 fn walk(parts: &mut Parts<JOURNAL_LEAST, RECORD_HEAD>, used: usize) -> Result<(), Refusal>
     requires within { used ≤ vec_len parts.old.memory }
     requires indexed { Indexed parts.old }
-    requires empty { parts.old.count ≡ 0 }
+    requires empty { parts.old.ends.items ≡ [] }
     ensures memory { parts.new.memory ≡ parts.old.memory }
     ensures cases { MatchResult result (λ _. Indexed parts.new × Formed parts.new × (end_of base gap parts.new ≡ used)) (λ e. (place : ℕ) × (e ≡ R.BrokenLog place) × Broken (take used parts.old.memory.items) place) }
 {
@@ -50,13 +76,13 @@ fn walk(parts: &mut Parts<JOURNAL_LEAST, RECORD_HEAD>, used: usize) -> Result<()
         return Err(Refusal::BrokenLog(0));
     };
     parts.session = session;
-    while parts.used() < used {
-        let at = parts.used();
+    let mut at = JOURNAL_LEAST;
+    while at < used {
         let Ok(message) = read_message(&parts.memory[at..used], session) else {
             return Err(Refusal::BrokenLog(at));
         };
         let length = message.len();
-        parts.take_in(length)?;
+        at = note(parts, at, length);
     }
     Ok(())
 }
@@ -66,16 +92,9 @@ impl Journal {
     pub fn new(heap: Global, memory: Vec<u8>) -> Result<Journal, Unmade<Vec<u8>>>
         ensures { MatchResult result (λ j. (makes (vec_len memory) ≡ true) × (⟦<Journal as Log>⟧.view j ≡ journal (vec_len memory) 0 [])) (λ u. (u.given ≡ memory) × Unmakable (vec_len memory) u.refusal) }
     {
-        let (mut memory, ends) = with_index(heap, memory)?;
-        lay(&mut memory, 0, &session_record(0));
-        Ok(Journal {
-            parts: Parts {
-                memory,
-                ends,
-                session: 0,
-                count: 0,
-            },
-        })
+        let mut parts = with_index(heap, memory)?;
+        lay(&mut parts.memory, 0, &session_record(0));
+        Ok(Journal { parts })
     }
 
     /// The journal that the first `used` bytes of this memory hold.
@@ -85,13 +104,7 @@ impl Journal {
     {
         // Memory and how much of it is used: a journal goes on in memory that is longer than what was saved.
         let given = allow(used <= memory.len(), memory)?;
-        let (memory, ends) = with_index(heap, given)?;
-        let mut parts = Parts {
-            memory,
-            ends,
-            session: 0,
-            count: 0,
-        };
+        let mut parts = with_index(heap, given)?;
         // No `map_err`, as above: both arms take the parts.
         match walk(&mut parts, used) {
             Ok(()) => Ok(Journal { parts }),

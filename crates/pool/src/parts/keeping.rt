@@ -1,6 +1,5 @@
 //! What is asked of such messages, and one message more.
-ghost use Rattle.std.specs.Prelude.{◌≡◌, ◌+◌, ◌≤◌, ◌++◌, Ok, length, vec_len, slice_set};
-ghost use Rattle.std.specs.List.{between};
+ghost use Rattle.std.specs.Prelude.{◌≡◌, ◌+◌, ◌≤◌, [], ◌∷◌, ◌++◌, Ok, Err, length, vec_len, MatchResult};
 ghost use Rattle.memory.specs.Memory.{laid};
 ghost use Rattle.message_log.specs.Meaning.{count, begun, added};
 ghost use Rattle.message_log.specs.Calls.{Lent, takes, begins, settled};
@@ -17,21 +16,21 @@ impl<const BASE: usize, const GAP: usize> Parts<BASE, GAP> {
     pub fn count(&self) -> usize
         ensures { result ≡ count (kept BASE GAP self.now) }
     {
-        self.count
+        self.ends.len()
     }
 
     /// How far the bytes are used: to the end of the last message.
     pub fn used(&self) -> usize
         ensures { result ≡ used BASE GAP self.now }
     {
-        edge_at(BASE, &self.ends, self.count)
+        edge_at(BASE, &self.ends, self.ends.len())
     }
 
     /// Where message n begins with its gap.
     pub fn place(&self, n: usize) -> Result<usize, Refusal>
         ensures { result ≡ placed BASE (kept BASE GAP self.now) n }
     {
-        if n == 0 || n > self.count {
+        if n == 0 || n > self.ends.len() {
             return Err(Refusal::NoSuchMessage);
         }
         Ok(edge_at(BASE, &self.ends, n - 1))
@@ -46,17 +45,25 @@ impl<const BASE: usize, const GAP: usize> Parts<BASE, GAP> {
         Ok(&self.memory[start..end])
     }
 
+    /// Judges a message of so many bytes: where it would begin with its gap, or why it is not taken.
+    fn judge(&self, bytes: usize) -> Result<usize, Refusal>
+        ensures { MatchResult result (λ at. (at ≡ used BASE GAP self.now) × (takes (kept BASE GAP self.now) bytes ≡ Ok tt)) (λ refusal. takes (kept BASE GAP self.now) bytes ≡ Err refusal) }
+    {
+        let at = self.used();
+        let space = Space {
+            session: self.session,
+            room: self.memory.len() - at,
+            places: self.places - self.ends.len(),
+            overhead: GAP,
+        };
+        space.judge(bytes).map(|()| at)
+    }
+
     /// Whether a message of so many bytes would be taken, and if not why.
     pub fn would_take(&self, bytes: usize) -> Result<(), Refusal>
         ensures { result ≡ takes (kept BASE GAP self.now) bytes }
     {
-        let space = Space {
-            session: self.session,
-            room: self.memory.len() - self.used(),
-            places: self.ends.len() - self.count,
-            overhead: GAP,
-        };
-        space.judge(bytes)
+        self.judge(bytes).map(|_| ())
     }
 
     /// Lays a piece over the bytes from `at` on.
@@ -64,7 +71,7 @@ impl<const BASE: usize, const GAP: usize> Parts<BASE, GAP> {
         requires { at + length piece.now ≤ vec_len self.old.memory }
         ensures memory { self.new.memory.items ≡ laid self.old.memory.items at piece.now }
         ensures ends { self.new.ends ≡ self.old.ends }
-        ensures count { self.new.count ≡ self.old.count }
+        ensures places { self.new.places ≡ self.old.places }
         ensures session { self.new.session ≡ self.old.session }
     {
         lay(&mut self.memory, at, piece);
@@ -82,33 +89,21 @@ impl<const BASE: usize, const GAP: usize> Parts<BASE, GAP> {
         }
         self.lay_in(0, &front);
         self.session = session;
-        self.count = 0;
+        self.ends.clear();
         Ok(())
     }
 
-    /// Notes where a message of so many bytes ends that lies behind the last one and its own gap.
-    fn note(&mut self, bytes: usize)
-        requires { takes (kept BASE GAP self.old) bytes ≡ Ok tt }
-        ensures ends { self.new.ends.items ≡ slice_set self.old.ends.items self.old.count (used BASE GAP self.old + GAP + bytes) }
-        ensures count { self.new.count ≡ self.old.count + 1 }
+    /// Notes where a message of so many bytes ends that lies at `at`, behind the last one, with its gap.
+    fn note(&mut self, at: usize, bytes: usize)
+        requires behind { at ≡ used BASE GAP self.old }
+        requires fits { takes (kept BASE GAP self.old) bytes ≡ Ok tt }
+        ensures ends { self.new.ends.items ≡ self.old.ends.items ++ (at + GAP + bytes) ∷ [] }
+        ensures places { self.new.places ≡ self.old.places }
         ensures memory { self.new.memory ≡ self.old.memory }
         ensures session { self.new.session ≡ self.old.session }
     {
-        let end = self.used() + GAP + bytes;
-        self.ends[self.count] = end as u32;
-        self.count += 1;
-    }
-
-    /// Takes in the message of so many bytes that lies behind the last one and its own gap.
-    pub fn take_in(&mut self, bytes: usize) -> Result<(), Refusal>
-        ensures value { result ≡ takes (kept BASE GAP self.old) bytes }
-        ensures after { let start = used BASE GAP self.old + GAP in kept BASE GAP self.new ≡ settled result (added (kept BASE GAP self.old) (between start (start + bytes) self.old.memory.items)) (kept BASE GAP self.old) }
-        ensures memory { self.new.memory ≡ self.old.memory }
-        ensures used { used BASE GAP self.new ≡ settled result (used BASE GAP self.old + GAP + bytes) (used BASE GAP self.old) }
-    {
-        self.would_take(bytes)?;
-        self.note(bytes);
-        Ok(())
+        let end = at + GAP + bytes;
+        self.ends.push_reserved(end as u32);
     }
 
     /// Adds a message at the end, with these bytes in its gap.
@@ -118,9 +113,8 @@ impl<const BASE: usize, const GAP: usize> Parts<BASE, GAP> {
         ensures memory { self.new.memory.items ≡ settled result (laid self.old.memory.items (used BASE GAP self.old) (head.entry ++ message.now)) self.old.memory.items }
         ensures used { used BASE GAP self.new ≡ settled result (used BASE GAP self.old + GAP + length message.now) (used BASE GAP self.old) }
     {
-        self.would_take(message.len())?;
-        let at = self.used();
-        self.note(message.len());
+        let at = self.judge(message.len())?;
+        self.note(at, message.len());
         self.lay_in(at, &head);
         self.lay_in(at + GAP, message);
         Ok(())

@@ -3,8 +3,8 @@ use Rattle.pool.specs.Kept.{used}
 use Rattle.journal.specs.Layout.{base, gap, Indexed, Formed}
 use Rattle.journal.proofs.journals.opening.walk.Given as goal
 
-abbrev pub invariant-loop-parts : goal.invariant-loop-parts
-invariant-loop-parts l = record { memory : l.parts.memory ≡ l.fn.parts.memory; indexed : Indexed l.parts; bears : l.parts.session ≡ l.session; form : Formed l.parts; within : used base gap l.parts ≤ l.used }
+abbrev pub invariant-loop-at : goal.invariant-loop-at
+invariant-loop-at l = record { memory : l.parts.memory ≡ l.fn.parts.memory; indexed : Indexed l.parts; bears : l.parts.session ≡ l.session; form : Formed l.parts; place : l.at ≡ used base gap l.parts; within : l.at ≤ l.used }
 
-abbrev pub decreases-loop-parts : goal.decreases-loop-parts
-decreases-loop-parts l = l.used - used base gap l.parts
+abbrev pub decreases-loop-at : goal.decreases-loop-at
+decreases-loop-at l = l.used - l.at
