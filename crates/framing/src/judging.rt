@@ -1,6 +1,7 @@
 //! What an end says of its frame.
 //! It knows which letters it takes, and so can tell one that is out of place.
-ghost use Rattle.std.specs.Prelude.{◌≡◌, false, slice_index};
+ghost use Rattle.std.specs.Prelude.{◌≡◌, ◌≢◌, true, false, Ok, slice_index};
+ghost use Rattle.packet.specs.Decoding.{decode, part};
 ghost use Rattle.packet.specs.Meanings.{answer_of};
 ghost use Rattle.rules.specs.Frames.{among, placed, judged};
 
@@ -8,20 +9,31 @@ use fault::PacketFault;
 use layout::Letter;
 use packet::{Packet, Reader};
 
+/// Whether the bytes are a part, which they are whatever letters an end takes: their length number is not all in, or it
+/// counts more bytes than there are.
+#[inline(always)]
+pub fn is_part(bytes: &[u8]) -> bool
+    ensures finds { result ≡ true → decode bytes.now ≡ Ok part }
+    ensures only { result ≡ false → decode bytes.now ≢ Ok part }
+{
+    match Reader::new(bytes).packet_len() {
+        Ok(Some(length)) => bytes.len() < length,
+        Ok(None) => true,
+        Err(_) => false,
+    }
+}
+
 /// What an end that takes these letters says of its frame: a part, a packet or a fault. A letter that is out of
 /// place is told before a wrong length and a wrong content, and after a letter that is none.
 #[inline(always)]
 pub fn judge<'a>(bytes: &'a [u8], letters: &[Letter]) -> Result<Option<Packet<'a>>, PacketFault>
     ensures { answer_of result ≡ judged letters.now bytes.now }
 {
-    let reader = Reader::new(bytes);
-    // Most takes leave a part, which its length tells: no packet is read for it.
-    let Some(length) = reader.packet_len()? else {
-        return Ok(None);
-    };
-    if bytes.len() < length {
+    // Most takes leave a part: no packet is read for it.
+    if is_part(bytes) {
         return Ok(None);
     }
+    let reader = Reader::new(bytes);
     if is_taken(bytes, letters) {
         return reader.read();
     }

@@ -2,7 +2,7 @@
 //! counted.
 //!
 //! Left out: phases, and what an end does with a packet. The functions, in the order a reader meets them: `has_room`,
-//! `post`, `post_message`, `fill`, `judge`, `one_more`.
+//! `post`, `post_message`, `fill`, `is_part`, `judge`, `one_more`.
 #![tactic(auto)]
 
 pub mod filling;
@@ -11,6 +11,6 @@ pub mod posting;
 pub mod ticking;
 
 pub use filling::fill;
-pub use judging::judge;
+pub use judging::{is_part, judge};
 pub use posting::{has_room, post, post_message};
 pub use ticking::{BEAT_AFTER, SILENCE_LIMIT, one_more};

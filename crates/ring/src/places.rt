@@ -36,7 +36,10 @@ pub(crate) fn read_round(places: &[u8], at: usize, out: &mut [u8])
 {
     let ahead = places.len() - at;
     let n = out.len();
-    if n <= ahead {
+    if n == 1 {
+        // One byte is no copy: a line that is paced by 1 takes each so.
+        out[0] = places[at];
+    } else if n <= ahead {
         out.copy_from_slice(&places[at..at + n]);
     } else {
         let (front, back) = out.split_at_mut(ahead);

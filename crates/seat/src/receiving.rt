@@ -2,20 +2,23 @@
 //! One take, at most what the frame still lacks; a packet that is whole then is acted on.
 ghost use Rattle.std.specs.Prelude.{◌≡◌, ℕ, ◌≤◌, List, length, take};
 ghost use Rattle.layout.specs.Limits.{packet_limit};
+ghost use Rattle.packet.specs.Meanings.{answer_of};
 ghost use Rattle.line.specs.Lines.{LineView};
 ghost use Rattle.rules.specs.State.{Account};
-ghost use Rattle.rules.specs.Frames.{lack, Free};
+ghost use Rattle.rules.specs.Frames.{lack, judged, Free};
+ghost use Rattle.rules.specs.Seat.{seat_letters};
 ghost use Rattle.framing.specs.Calling.{Fewer};
 ghost use Rattle.seat.specs.Ends.{side_of};
 ghost use Rattle.standing.specs.Acts.{closing};
 ghost use Rattle.seat.specs.Receives.{Receives, hears};
 
 use crate::seats::Seat;
-use fault::{Fault, LogFault, Refusal};
-use framing::{fill, judge};
+use fault::{Fault, LogFault, PacketFault, Refusal};
+use framing::{fill, is_part, judge};
 use layout::{LogoutReason, PACKET_LIMIT};
 use line::{Line, SteadyLine};
 use message_log::Log;
+use packet::Packet;
 use rules::Received;
 
 impl Seat {
@@ -75,12 +78,23 @@ impl Seat {
         let filled = self.filled + count;
         self.filled = 0;
         self.silent = 0;
-        match judge(&frame[0..filled], self.standing.letters())? {
+        match self.judge(&frame[0..filled])? {
             None => {
                 self.filled = filled;
                 Ok(Received::Part)
             }
             Some(packet) => self.standing.act(packet, log),
         }
+    }
+
+    // What it says of its frame. Most takes leave a part: it is told first, and no letters are looked up for it.
+    #[inline(always)]
+    fn judge<'a>(&self, bytes: &'a [u8]) -> Result<Option<Packet<'a>>, PacketFault>
+        ensures { answer_of result ≡ judged (seat_letters self.now.standing.phase self.now.standing.fetch) bytes.now }
+    {
+        if is_part(bytes) {
+            return Ok(None);
+        }
+        judge(bytes, self.standing.letters())
     }
 }
