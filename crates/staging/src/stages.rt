@@ -1,6 +1,7 @@
 //! How far a rehearsal is, and what its commands do.
-ghost use Rattle.std.specs.Prelude.{◌≡◌};
+ghost use Rattle.std.specs.Prelude.{◌≡◌, IfOk};
 ghost use Rattle.staging.specs.Deeds.{Performs, Ticks, refusal_in};
+ghost use Rattle.staging.specs.Stages.{Fresh, MakesPart, SetsUp};
 
 use crate::commands::Deed;
 use crate::sums::Sums;
@@ -8,6 +9,7 @@ use crate::troubles::{Malformed, Trouble};
 use any_line::AnyLine;
 use any_log::AnyLog;
 use fault::Refusal;
+use line::Line;
 use playing::{End, Part, Parts, Play};
 use relay::{Answer, Call};
 use std::alloc::{AllocError, Global};
@@ -25,20 +27,26 @@ pub enum Stage {
 
 impl Stage {
     /// Before the first part is made.
-    pub fn new(heap: Global) -> Result<Stage, AllocError> {
+    pub fn new(heap: Global) -> Result<Stage, AllocError>
+        ensures { IfOk result (λ stage. Fresh stage) }
+    {
         Ok(Stage::Making(Parts::new(heap)?))
     }
 
     /// Makes a part, as long as there is no pair.
-    pub fn make(&mut self, heap: Global, part: Part<'_>) -> Result<(), Trouble> {
+    pub fn make(&mut self, heap: Global, part: Part<'_>) -> Result<(), Trouble>
+        ensures { MakesPart ⟦<AnyLine as Line>⟧.view part.entry self.old result self.new }
+    {
         match self {
-            Stage::Making(parts) => Ok(parts.make(heap, part)?),
+            Stage::Making(parts) => parts.make(heap, part).map_err(Trouble::Refused),
             Stage::Playing(_) => Err(Trouble::Malformed(Malformed::SetUp)),
         }
     }
 
     /// Sets the pair up of the parts that were made.
-    pub fn set_up(&mut self, heap: Global) -> Result<(), Trouble> {
+    pub fn set_up(&mut self, heap: Global) -> Result<(), Trouble>
+        ensures { SetsUp ⟦<AnyLine as Line>⟧.view self.old result self.new }
+    {
         let stage = mem::replace(self, Stage::Making(Parts::none(heap)));
         let (stage, answer) = stage.paired();
         *self = stage;
@@ -61,7 +69,9 @@ impl Stage {
     }
 
     // Set up, if all parts are made and nothing is refused.
-    fn paired(self) -> (Stage, Result<(), Trouble>) {
+    fn paired(self) -> (Stage, Result<(), Trouble>)
+        ensures { SetsUp ⟦<AnyLine as Line>⟧.view self result.1 result.0 }
+    {
         let parts = match self {
             Stage::Making(parts) => parts,
             playing => return (playing, Err(Trouble::Malformed(Malformed::SetUp))),

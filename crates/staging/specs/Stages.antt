@@ -1,0 +1,43 @@
+-- How a rehearsal comes to its pair: part by part, and then by set-up.
+use Rattle.std.specs.Prelude.{◌≡◌, false, Result, Ok, Err}
+use Rattle.layout.specs.Limits.{packet_limit}
+use Rattle.line.specs.Lines.{LineView}
+use Rattle.any_line.specs.declared.any.AnyLine.{AnyLine}
+use Rattle.rules.specs.SetUp as Given
+use Rattle.rules.specs.SetUp.{set_up}
+use Rattle.playing.specs.declared.forms.Part.{Part}
+use Rattle.playing.specs.declared.parts.Parts.{Parts}
+use Rattle.playing.specs.Makings.{Bare, Blank, Makes, PartDenied, Left, Joined, is_whole}
+use Rattle.staging.specs.declared.stages.Stage.{Stage}
+use Rattle.staging.specs.declared.stages.Stage.TheVariants.{Making, Playing}
+use Rattle.staging.specs.declared.troubles.Trouble.{Trouble}
+use Rattle.staging.specs.declared.troubles.Trouble.TheVariants.{Refused, Malformed, Failed}
+use Rattle.staging.specs.declared.troubles.Malformed.TheVariants.{SetUp, NotMade}
+
+-- no part is made but a table without a row, and buffers of the longest packet's length
+abbrev pub Fresh : Stage → Type 0
+Fresh (Making parts) = Bare parts × Blank packet_limit packet_limit packet_limit parts.buffers
+Fresh (Playing play) = ⊥
+
+-- a part is made, or refused with the parts left; there is none to make where there is a pair
+abbrev pub MakesPart : (AnyLine → LineView) → Part → Stage → Result (Unit {0}) Trouble → Stage → Type 0
+MakesPart means part (Making p) (Ok done) (Making q) = Makes means part p q
+MakesPart means part (Making p) (Err (Refused refusal)) (Making q) = PartDenied part p refusal × Left p q
+MakesPart means part (Making p) (Err (Malformed malformed)) q = ⊥
+MakesPart means part (Making p) (Err (Failed error)) q = ⊥
+MakesPart means part (Making p) r (Playing q) = ⊥
+MakesPart means part (Playing p) r q = (r ≡ Err (Malformed SetUp)) × (q ≡ Playing p)
+
+-- all parts are made, and set-up answers this of them
+abbrev pub SetUpOf : (AnyLine → LineView) → Parts → (Given.Parts → Type 0) → Type 0
+SetUpOf means p Answers = (whole : Given.Parts) × Joined means p whole × Answers whole
+
+-- the pair is set up of all parts, or refused with the parts left; or a part is missing; or there is a pair already
+abbrev pub SetsUp : (AnyLine → LineView) → Stage → Result (Unit {0}) Trouble → Stage → Type 0
+SetsUp means (Making p) (Ok done) (Playing play) = SetUpOf means p (λ whole. set_up whole ≡ Ok play.pair)
+SetsUp means (Making p) (Ok done) (Making q) = ⊥
+SetsUp means (Making p) (Err (Refused refusal)) (Making q) = SetUpOf means p (λ whole. (set_up whole ≡ Err refusal) × Joined means q whole)
+SetsUp means (Making p) (Err (Refused refusal)) (Playing play) = ⊥
+SetsUp means (Making p) (Err (Malformed malformed)) q = (malformed ≡ NotMade) × (is_whole p ≡ false) × (q ≡ Making p)
+SetsUp means (Making p) (Err (Failed error)) q = ⊥
+SetsUp means (Playing p) r q = (r ≡ Err (Malformed SetUp)) × (q ≡ Playing p)
