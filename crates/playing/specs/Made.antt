@@ -4,6 +4,7 @@ use Rattle.fault.specs.declared.refusals.Refusal.{Refusal}
 use Rattle.fault.specs.declared.refusals.Refusal.TheVariants as R
 use Rattle.layout.specs.Limits.{packet_limit}
 use Rattle.line.specs.Lines.{LineView, fresh}
+use Rattle.line.specs.Sizes.{LineSize, PieceLength}
 use Rattle.message_log.specs.Meaning.{Meaning}
 use Rattle.record.specs.Format.{saved}
 use Rattle.journal.specs.Layout.{makes, journal}
@@ -40,3 +41,14 @@ abbrev pub LogDenied : LogForm → Refusal → Type 0
 LogDenied (G.Journal bytes) e = Denied (makes bytes ≡ true) e
 LogDenied (G.Indexed pool table) e = Denied (pools pool table ≡ true) e
 LogDenied (G.Saved bytes form) e = Denied (opens bytes (length form.now) ≡ true) e ⊎ ((place : ℕ) × (e ≡ R.BrokenLog place) × Broken form.now place)
+
+-- the numbers that a line of this form may have
+abbrev pub LineAllowed : LineForm → Type 0
+LineAllowed (L.Ring size) = LineSize size
+LineAllowed (L.Straight size) = LineSize size
+LineAllowed (L.PacedRing pace size) = LineSize size × PieceLength pace
+LineAllowed (L.PacedStraight pace size) = LineSize size × PieceLength pace
+
+-- why no line of this form is made
+abbrev pub LineDenied : LineForm → Refusal → Type 0
+LineDenied form e = Denied (LineAllowed form) e

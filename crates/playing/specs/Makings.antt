@@ -1,11 +1,11 @@
 -- Parts of a pair as they are made, one by one, and all of them together.
-use Rattle.std.specs.Prelude.{◌≡◌, ℕ, Bool, true, false, ◌&&◌, List, [], replicate, is_some, is_ok, IsSomeAnd, Err, ⊤}
+use Rattle.std.specs.Prelude.{◌≡◌, ℕ, Bool, true, false, ◌&&◌, List, [], replicate, is_some, is_ok, IsSomeAnd, Err}
 use Rattle.account.specs.Table.{joining, joined, place_of}
 use Rattle.any_line.specs.declared.any.AnyLine.{AnyLine}
 use Rattle.any_log.specs.Kinds.{inside}
 use Rattle.line.specs.Lines.{LineView}
 use Rattle.rules.specs.SetUp as Given
-use Rattle.playing.specs.Made.{LogMade, LineMade, LogDenied}
+use Rattle.playing.specs.Made.{LogMade, LineMade, LogDenied, LineDenied}
 use Rattle.fault.specs.declared.refusals.Refusal.{Refusal}
 use Rattle.fault.specs.declared.refusals.Refusal.TheVariants.{OutOfMemory}
 use Rattle.playing.specs.declared.forms.Texts.{Texts}
@@ -43,10 +43,10 @@ Makes means (P.Account texts) p q = (q ≡ record { hub_log = p.hub_log; seat_lo
 Makes means (P.Seat texts) p q = (q ≡ record { hub_log = p.hub_log; seat_log = p.seat_log; up = p.up; down = p.down; accounts = p.accounts; seat = q.seat; buffers = p.buffers }) × IsSomeAnd q.seat (λ c. Copied texts c)
 Makes means (P.Buffers hub seat out) p q = (q ≡ record { hub_log = p.hub_log; seat_log = p.seat_log; up = p.up; down = p.down; accounts = p.accounts; seat = p.seat; buffers = q.buffers }) × Blank hub seat out q.buffers
 
--- why a part is not made; of a line nothing is said
+-- why a part is not made
 abbrev pub PartDenied : Part → Parts → Refusal → Type 0
 PartDenied (P.Log end form) p e = LogDenied form e
-PartDenied (P.Line side form) p e = ⊤
+PartDenied (P.Line side form) p e = LineDenied form e
 PartDenied (P.Account texts) p e = place_of p.accounts.rows (joining p.accounts.rows texts.user.now texts.computer.now texts.protocol.now) ≡ Err e
 PartDenied (P.Seat texts) p e = e ≡ OutOfMemory
 PartDenied (P.Buffers hub seat out) p e = e ≡ OutOfMemory

@@ -3,11 +3,12 @@ ghost use Rattle.std.specs.Prelude.{◌≡◌, ℕ, ◌+◌, true, ◌⊎◌, mi
 ghost use Rattle.fault.specs.declared.refusals.Refusal.TheVariants as R;
 ghost use Rattle.layout.specs.Limits.{packet_limit};
 ghost use Rattle.line.specs.Lines.{fresh};
+ghost use Rattle.line.specs.Sizes.{LineSize};
 ghost use Rattle.record.specs.Format.{saved as form_of};
 ghost use Rattle.indexed.specs.Pooled.{makes as pools};
 ghost use Rattle.journal.specs.Layout.{makes, journal};
 ghost use Rattle.journal.specs.Opening.{Broken, opens};
-ghost use Rattle.playing.specs.Made.{LogMade, LineMade, LogDenied, Denied, indexed};
+ghost use Rattle.playing.specs.Made.{LogMade, LineMade, LogDenied, LineDenied, Denied, indexed};
 
 use crate::forms::{LineForm, LogForm};
 use any_line::AnyLine;
@@ -65,7 +66,7 @@ fn opened(heap: Global, bytes: usize, saved: &[u8]) -> Result<Journal, Refusal>
 
 /// The line of this form.
 pub(crate) fn line_of(heap: Global, form: LineForm) -> Result<AnyLine, Refusal>
-    ensures { IfOk result (λ l. LineMade form (⟦<AnyLine as Line>⟧.view l)) }
+    ensures { MatchResult result (λ l. LineMade form (⟦<AnyLine as Line>⟧.view l)) (λ e. LineDenied form e) }
 {
     match form {
         LineForm::Ring { size } => Ok(AnyLine::Ring(ring_of(heap, size)?)),
@@ -82,13 +83,13 @@ pub(crate) fn line_of(heap: Global, form: LineForm) -> Result<AnyLine, Refusal>
 }
 
 fn ring_of(heap: Global, size: usize) -> Result<Ring, Refusal>
-    ensures { IfOk result (λ l. ⟦<Ring as Line>⟧.view l ≡ fresh size packet_limit) }
+    ensures { MatchResult result (λ l. ⟦<Ring as Line>⟧.view l ≡ fresh size packet_limit) (λ e. Denied (LineSize size) e) }
 {
     Ok(Ring::new(memory(heap, size, LARGEST_SIZE)?)?)
 }
 
 fn straight_of(heap: Global, size: usize) -> Result<Straight, Refusal>
-    ensures { IfOk result (λ l. ⟦<Straight as Line>⟧.view l ≡ fresh size 1) }
+    ensures { MatchResult result (λ l. ⟦<Straight as Line>⟧.view l ≡ fresh size 1) (λ e. Denied (LineSize size) e) }
 {
     Ok(Straight::new(memory(heap, size, LARGEST_SIZE)?)?)
 }

@@ -1,4 +1,4 @@
--- What a line does to a pair: a step of the rules, or several.
+-- What a line does to a pair: a step of the rules, or several, each of them counted.
 use Rattle.std.specs.Prelude.{◌≡◌, ℕ, ◌+◌, Some, None, Option, Result, Ok, Err}
 use Rattle.fault.specs.declared.refusals.Refusal.{Refusal}
 use Rattle.relay.specs.declared.commands.Answer.{Answer}
@@ -12,6 +12,8 @@ use Rattle.playing.specs.Played.{Played}
 use Rattle.playing.specs.Strangers.{Meddles}
 use Rattle.staging.specs.declared.commands.Deed.{Deed}
 use Rattle.staging.specs.declared.commands.Deed.TheVariants as D
+use Rattle.staging.specs.Counting.{counted}
+use Rattle.staging.specs.declared.sums.Sums.{Sums}
 use Rattle.staging.specs.declared.stages.Stage.{Stage}
 use Rattle.staging.specs.declared.stages.Stage.TheVariants.{Making, Playing}
 use Rattle.staging.specs.declared.troubles.Malformed.{Malformed}
@@ -28,27 +30,27 @@ refusal_in (Put (Err refusal)) = Some refusal
 refusal_in (Went (Ok report)) = None
 refusal_in (Went (Err refusal)) = Some refusal
 
--- so many ticks were granted
-pub data Ticked (p : Pair) : ℕ → Pair → Type 0 where
-  none : Ticked p 0 p
-  one_more : {n : ℕ} {q r : Pair} → Ticked p n q → Performed q R.Tick (R.Did (Ok tt)) r → Ticked p (n + 1) r
+-- so many ticks were granted and counted
+pub data Ticked (p : Pair) (s : Sums) : ℕ → Pair → Sums → Type 0 where
+  none : Ticked p s 0 p s
+  one_more : {n : ℕ} {q r : Pair} {t : Sums} → Ticked p s n q t → Performed q R.Tick (R.Did (Ok tt)) r → Ticked p s (n + 1) r (counted t None)
 
 -- what so many ticks are answered: all were granted, or one was refused, which was the last
-pub data Ticks (p : Pair) (n : ℕ) : Answer → Pair → Type 0 where
-  all : {q : Pair} → Ticked p n q → Ticks p n (Did (Ok tt)) q
-  refused : {k : ℕ} {q r : Pair} {e : Refusal} → Ticked p k q → Performed q R.Tick (R.Did (Err e)) r → Ticks p n (Did (Err e)) r
+pub data Ticks (p : Pair) (s : Sums) (n : ℕ) : Answer → Pair → Sums → Type 0 where
+  all : {q : Pair} {t : Sums} → Ticked p s n q t → Ticks p s n (Did (Ok tt)) q t
+  refused : {k : ℕ} {q r : Pair} {t : Sums} {e : Refusal} → Ticked p s k q t → Performed q R.Tick (R.Did (Err e)) r → Ticks p s n (Did (Err e)) r (counted t (Some e))
 
--- what was done, and what it was answered
-abbrev pub Done : Deed → Played → Answer → Played → Type 0
-Done (D.Call call) p answer q = Performed p.pair (call_of call) (answer_of answer) q.pair
-Done (D.Ticks count) p answer q = Ticks p.pair count answer q.pair
-Done (D.Level way) p answer q = (told : Result (Unit {0}) Refusal) × (answer ≡ Did told) × Brings (how_of way) p.pair told q.pair
-Done (D.Stranger side bytes) p answer q = (told : Result (Unit {0}) Refusal) × (answer ≡ Did told) × Meddles side bytes.now p.pair told q.pair × (q.up ≡ p.up) × (q.down ≡ p.down)
+-- What was done, what it was answered, and how it was counted. A stranger's bytes are no call.
+abbrev pub Done : Deed → Played → Sums → Answer → Played → Sums → Type 0
+Done (D.Call call) p s answer q t = Performed p.pair (call_of call) (answer_of answer) q.pair × (t ≡ counted s (refusal_in answer))
+Done (D.Ticks count) p s answer q t = Ticks p.pair s count answer q.pair t
+Done (D.Level way) p s answer q t = (told : Result (Unit {0}) Refusal) × (answer ≡ Did told) × Brings (how_of way) p.pair told q.pair × (t ≡ counted s (refusal_in answer))
+Done (D.Stranger side bytes) p s answer q t = (told : Result (Unit {0}) Refusal) × (answer ≡ Did told) × Meddles side bytes.now p.pair told q.pair × (q.up ≡ p.up) × (q.down ≡ p.down) × (t ≡ s)
 
 -- done where there is a pair, and else refused
-abbrev pub Performs : Stage → Deed → Result Answer Malformed → Stage → Type 0
-Performs (Making parts) deed (Ok answer) after = ⊥
-Performs (Making parts) deed (Err malformed) after = (malformed ≡ NotSetUp) × (after ≡ Making parts)
-Performs (Playing play) deed (Ok answer) (Playing after) = Done deed play answer after
-Performs (Playing play) deed (Ok answer) (Making after) = ⊥
-Performs (Playing play) deed (Err malformed) after = ⊥
+abbrev pub Performs : Stage → Sums → Deed → Result Answer Malformed → Stage → Sums → Type 0
+Performs (Making parts) s deed (Ok answer) after t = ⊥
+Performs (Making parts) s deed (Err malformed) after t = (malformed ≡ NotSetUp) × (after ≡ Making parts) × (t ≡ s)
+Performs (Playing play) s deed (Ok answer) (Playing after) t = Done deed play s answer after t
+Performs (Playing play) s deed (Ok answer) (Making after) t = ⊥
+Performs (Playing play) s deed (Err malformed) after t = ⊥

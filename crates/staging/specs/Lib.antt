@@ -1,3 +1,4 @@
+pub mod Counting
 pub mod Deeds
 pub mod Lines
 pub mod Stages

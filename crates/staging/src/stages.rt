@@ -1,5 +1,6 @@
 //! How far a rehearsal is, and what its commands do.
 ghost use Rattle.std.specs.Prelude.{◌≡◌, IfOk};
+ghost use Rattle.staging.specs.Counting.{counted};
 ghost use Rattle.staging.specs.Deeds.{Performs, Ticks, refusal_in};
 ghost use Rattle.staging.specs.Stages.{Fresh, MakesPart, SetsUp};
 
@@ -55,7 +56,7 @@ impl Stage {
 
     /// Does something to the pair, and counts it.
     pub fn perform(&mut self, deed: Deed<'_>, sums: &mut Sums) -> Result<Answer, Malformed>
-        ensures { Performs self.old deed.entry result self.new }
+        ensures { Performs self.old sums.old deed.entry result self.new sums.new }
     {
         let Stage::Playing(play) = self else {
             return Err(Malformed::NotSetUp);
@@ -136,7 +137,8 @@ impl Stage {
 
 // A call's answer, after it was counted.
 fn noted(sums: &mut Sums, answer: Answer) -> Answer
-    ensures { result ≡ answer }
+    ensures same { result ≡ answer }
+    ensures count { sums.new ≡ counted sums.old (refusal_in answer) }
 {
     sums.note(refusal_of(&answer));
     answer
@@ -157,7 +159,7 @@ fn refusal_of(answer: &Answer) -> Option<Refusal>
 
 // So many ticks, as long as none is refused.
 fn tick(sums: &mut Sums, play: &mut Play, count: u64) -> Answer
-    ensures { Ticks play.old.pair count result play.new.pair }
+    ensures { Ticks play.old.pair sums.old count result play.new.pair sums.new }
 {
     for _ in 0..count {
         let answer = noted(sums, play.call(Call::Tick));

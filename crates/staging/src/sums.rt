@@ -1,4 +1,7 @@
 //! What a rehearsal's calls come to.
+ghost use Rattle.std.specs.Prelude.{◌≡◌};
+ghost use Rattle.staging.specs.Counting.{counted, uncounted};
+
 use fault::Refusal;
 
 /// The numbers of refusals are below this.
@@ -14,7 +17,9 @@ pub struct Sums {
 
 impl Sums {
     /// No call yet.
-    pub fn new() -> Sums {
+    pub fn new() -> Sums
+        ensures { result ≡ uncounted }
+    {
         Sums {
             calls: 0,
             refused: 0,
@@ -23,13 +28,15 @@ impl Sums {
     }
 
     /// One call more, and its refusal if it was refused.
-    pub fn note(&mut self, refusal: Option<Refusal>) {
+    #[tactic(auto, using(crate::proofs::Numbers::number_below))]
+    pub fn note(&mut self, refusal: Option<Refusal>)
+        ensures { self.new ≡ counted self.old refusal }
+    {
         self.calls = self.calls.saturating_add(1);
         if let Some(refusal) = refusal {
             self.refused = self.refused.saturating_add(1);
-            if let Some(count) = self.by_number.get_mut(usize::from(refusal.number())) {
-                *count = count.saturating_add(1);
-            }
+            let number = usize::from(refusal.number());
+            self.by_number[number] = self.by_number[number].saturating_add(1);
         }
     }
 }

@@ -5,6 +5,8 @@ use Rattle.relay.specs.declared.commands.Answer.TheVariants.{Did, Took, Put, Wen
 use Rattle.relay.specs.Calls.{answer_of}
 use Rattle.rules.specs.Rounds as R
 use Rattle.rules.specs.State.{Pair}
+use Rattle.staging.specs.Counting.{counted}
+use Rattle.staging.specs.declared.sums.Sums.{Sums}
 use Rattle.staging.specs.Deeds.{none, one_more, all, refused, refusal_in}
 use Rattle.staging.proofs.stages.tick.Goals as goal
 
@@ -32,24 +34,26 @@ denied (Took r) h t = absurd (cc h)
 denied (Put r) h t = absurd (cc h)
 denied (Went r) h t = absurd (cc h)
 
--- src/stages.rt:152:5
+-- how an answer was counted that is known to be this
+recounted : (a b : Answer) (s t : Sums) → t ≡ counted s (refusal_in a) → a ≡ b → t ≡ counted s (refusal_in b)
+recounted a b s t e is = e ∙ ap (λ (x : Answer). counted s (refusal_in x)) is
+
 pub loop-init : goal.loop-init
 loop-init c = none
 
--- src/stages.rt:155:13
 pub returns-then-is_some : goal.returns-then-is_some
 returns-then-is_some c =
     let told-some : is_some (refusal_in c.call.result) ≡ true = cc in
     let told = denied c.call.result (tick_did c.loop.play.pair _ c.call.ensures.step) told-some in
-    rw (c.noted-answer.ensures ∙ told.1) (refused c.loop.invariant (rw (ap answer_of told.1) at c.call.ensures))
+    let count = recounted c.call.result (Did (Err told.0)) c.loop.sums c.noted-answer.new.sums c.noted-answer.ensures.count told.1 in
+    rw (c.noted-answer.ensures.same ∙ told.1, count) (refused c.loop.invariant (rw (ap answer_of told.1) at c.call.ensures))
 
--- src/stages.rt:152:5
 pub loop-preserved : goal.loop-preserved
 loop-preserved c =
     let told-none : is_some (refusal_in c.call.result) ≡ false = cc in
     let told = granted c.call.result (tick_did c.loop.play.pair _ c.call.ensures.step) told-none in
-    one_more c.loop.invariant (rw (ap answer_of told) at c.call.ensures)
+    let count = recounted c.call.result (Did (Ok tt)) c.loop.sums c.noted-answer.new.sums c.noted-answer.ensures.count told in
+    rw count (one_more c.loop.invariant (rw (ap answer_of told) at c.call.ensures))
 
--- src/stages.rt:149:1
 pub returns : goal.returns
 returns c = all (let end : c.loop.counter ≡ c.args.count = omega arith in rw end at c.loop.invariant)

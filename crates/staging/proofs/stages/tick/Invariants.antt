@@ -2,4 +2,4 @@ use Rattle.staging.specs.Deeds.{Ticked}
 use Rattle.staging.proofs.stages.tick.Given as goal
 
 abbrev pub invariant-loop : goal.invariant-loop
-invariant-loop l = Ticked l.initial.play.pair l.counter l.play.pair
+invariant-loop l = Ticked l.initial.play.pair l.initial.sums l.counter l.play.pair l.sums
