@@ -1,8 +1,13 @@
--- How a rehearsal comes to its pair: part by part, and then by set-up.
-use Rattle.std.specs.Prelude.{◌≡◌, false, Result, Ok, Err}
+-- How a rehearsal comes to its pair: part by part, and then by set-up; and what can be looked at.
+use Rattle.std.specs.Prelude.{◌≡◌, ℕ, false, List, IsSomeAnd, Some, None, Option, Result, Ok, Err}
 use Rattle.layout.specs.Limits.{packet_limit}
 use Rattle.line.specs.Lines.{LineView}
+use Rattle.message_log.specs.Meaning.{Meaning}
 use Rattle.any_line.specs.declared.any.AnyLine.{AnyLine}
+use Rattle.any_log.specs.declared.AnyLog.{AnyLog}
+use Rattle.any_log.specs.Kinds.{inside}
+use Rattle.playing.specs.declared.forms.End.{End}
+use Rattle.playing.specs.declared.forms.End.TheVariants.{Hub, Seat}
 use Rattle.rules.specs.SetUp as Given
 use Rattle.rules.specs.SetUp.{set_up}
 use Rattle.playing.specs.declared.forms.Part.{Part}
@@ -41,3 +46,24 @@ SetsUp means (Making p) (Err (Refused refusal)) (Playing play) = ⊥
 SetsUp means (Making p) (Err (Malformed malformed)) q = (malformed ≡ NotMade) × (is_whole p ≡ false) × (q ≡ Making p)
 SetsUp means (Making p) (Err (Failed error)) q = ⊥
 SetsUp means (Playing p) r q = (r ≡ Err (Malformed SetUp)) × (q ≡ Playing p)
+
+abbrev pub means_of : Option AnyLog → Option Meaning
+means_of None = None
+means_of (Some l) = Some (inside l)
+
+-- the log of an end, if it is made
+abbrev pub log_at : Stage → End → Option Meaning
+log_at (Making p) Hub = means_of p.hub_log
+log_at (Making p) Seat = means_of p.seat_log
+log_at (Playing play) Hub = Some play.pair.running.log
+log_at (Playing play) Seat = Some play.pair.held
+
+-- what the two lines mean, which are made
+abbrev pub LinesAt : (AnyLine → LineView) → Stage → LineView → LineView → Type 0
+LinesAt means (Making p) up down = IsSomeAnd p.up (λ t. up ≡ means t.line) × IsSomeAnd p.down (λ t. down ≡ means t.line)
+LinesAt means (Playing play) up down = (up ≡ play.pair.up) × (down ≡ play.pair.down)
+
+-- the outgoing buffer
+abbrev pub out_at : Stage → List ℕ
+out_at (Making p) = p.buffers.out.items
+out_at (Playing play) = play.pair.buffers.out

@@ -1,8 +1,11 @@
 //! How far a rehearsal is, and what its commands do.
-ghost use Rattle.std.specs.Prelude.{◌≡◌, IfOk};
+ghost use Rattle.std.specs.Prelude.{◌≡◌, ◌<◌, ◌≤◌, ◌⊎◌, IfOk, IsSomeAnd, MatchResult, None, Some, length, take};
+ghost use Rattle.line.specs.Lines.{LineView};
+ghost use Rattle.record.specs.Format.{saved};
+ghost use Rattle.staging.specs.declared.troubles.Malformed.TheVariants as M;
 ghost use Rattle.staging.specs.Counting.{counted};
 ghost use Rattle.staging.specs.Deeds.{Performs, Ticks, refusal_in};
-ghost use Rattle.staging.specs.Stages.{Fresh, MakesPart, SetsUp};
+ghost use Rattle.staging.specs.Stages.{Fresh, MakesPart, SetsUp, LinesAt, log_at, out_at};
 
 use crate::commands::Deed;
 use crate::sums::Sums;
@@ -11,6 +14,7 @@ use any_line::AnyLine;
 use any_log::AnyLog;
 use fault::Refusal;
 use line::Line;
+use message_log::Log;
 use playing::{End, Part, Parts, Play};
 use relay::{Answer, Call};
 use std::alloc::{AllocError, Global};
@@ -93,7 +97,9 @@ impl Stage {
     }
 
     /// The two lines, if both are made.
-    pub fn lines(&self) -> Result<(&Tapped<AnyLine>, &Tapped<AnyLine>), Malformed> {
+    pub fn lines(&self) -> Result<(&Tapped<AnyLine>, &Tapped<AnyLine>), Malformed>
+        ensures { MatchResult result (λ lines. LinesAt ⟦<AnyLine as Line>⟧.view self.now (⟦<Tapped<AnyLine> as Line>⟧.view lines.0.now) (⟦<Tapped<AnyLine> as Line>⟧.view lines.1.now)) (λ e. (e ≡ M.NotMade) × ((up down : LineView) → LinesAt ⟦<AnyLine as Line>⟧.view self.now up down → ⊥)) }
+    {
         match self {
             Stage::Making(
                 Parts {
@@ -108,7 +114,9 @@ impl Stage {
     }
 
     /// The log of an end, if it is made.
-    pub fn log(&self, end: End) -> Result<&AnyLog, Malformed> {
+    pub fn log(&self, end: End) -> Result<&AnyLog, Malformed>
+        ensures { MatchResult result (λ log. log_at self.now end ≡ Some (⟦<AnyLog as Log>⟧.view log.now)) (λ e. (e ≡ M.NotMade) × (log_at self.now end ≡ None)) }
+    {
         match (self, end) {
             (Stage::Making(parts), End::Hub) => parts.hub_log.as_ref().ok_or(Malformed::NotMade),
             (Stage::Making(parts), End::Seat) => parts.seat_log.as_ref().ok_or(Malformed::NotMade),
@@ -118,7 +126,9 @@ impl Stage {
     }
 
     /// The first bytes of the outgoing buffer.
-    pub fn out(&self, count: usize) -> Result<&[u8], Malformed> {
+    pub fn out(&self, count: usize) -> Result<&[u8], Malformed>
+        ensures { MatchResult result (λ bytes. (count ≤ length (out_at self.now)) × (bytes.now ≡ take count (out_at self.now))) (λ e. (e ≡ M.PastTheBuffer) × (length (out_at self.now) < count)) }
+    {
         let buffers = match self {
             Stage::Making(parts) => &parts.buffers,
             Stage::Playing(play) => &play.buffers,
@@ -127,7 +137,9 @@ impl Stage {
     }
 
     /// The saved form of an end's log.
-    pub fn saved(&self, end: End) -> Result<&[u8], Malformed> {
+    pub fn saved(&self, end: End) -> Result<&[u8], Malformed>
+        ensures { MatchResult result (λ bytes. IsSomeAnd (log_at self.now end) (λ log. bytes.now ≡ saved log.session log.messages)) (λ e. ((e ≡ M.NotMade) × (log_at self.now end ≡ None)) ⊎ (e ≡ M.NotSaved)) }
+    {
         match self.log(end)? {
             AnyLog::Journal(journal) => Ok(journal.bytes()),
             AnyLog::Indexed(_) => Err(Malformed::NotSaved),
