@@ -1,9 +1,9 @@
 -- The fields of an account: which are allowed, and how they are padded.
 use Rattle.std.specs.Prelude.{ℕ, ◌-◌, Bool, cond, ◌&&◌, List, ◌++◌, length, replicate, Ok, Err, Result, nat_le}
 use Rattle.std.specs.List.{list_all}
-use Rattle.fault.specs.declared.refusals.Refusal.{Refusal}
-use Rattle.fault.specs.declared.refusals.Refusal.TheVariants.{BadAccountField}
-use Rattle.memory.specs.Memory as Memory
+use Rattle.wire.specs.declared.refusals.Refusal.{Refusal}
+use Rattle.wire.specs.declared.refusals.Refusal.TheVariants.{BadAccountField}
+use Rattle.wire.specs.Overlay as Memory
 use Rattle.account.specs.declared.fields.Account.{Account}
 
 -- a byte that is written as a mark on paper: from ! to ~

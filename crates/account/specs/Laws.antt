@@ -1,8 +1,8 @@
 -- What holds of lookups, marks and logins, in words that do not follow the steps of the definitions.
 use Rattle.std.specs.Prelude.{◌≡◌, ℕ, ◌+◌, ◌<◌, ◌≤◌, Bool, true, false, ◌⊎◌, List, map, length, Some, None, Ok, Err, Decides, Option, Result, ◌≢◌, slice_index_or}
 use Rattle.std.specs.List.{AllByRecursion}
-use Rattle.layout.specs.declared.statuses.Status.{Status}
-use Rattle.layout.specs.declared.statuses.Status.TheVariants.{Accepted}
+use Rattle.wire.specs.declared.statuses.Status.{Status}
+use Rattle.wire.specs.declared.statuses.Status.TheVariants.{Accepted}
 use Rattle.account.specs.declared.rows.Row.{Row}
 use Rattle.account.specs.Rows.{folded, alike, matches, found, row_at, with_mark, marking}
 use Rattle.account.specs.Logins.{Asked, Check, spoken_version, checks, status_for}

@@ -1,8 +1,8 @@
 -- The login decision: an ordered list of checks, the first of which to fail gives the status.
 use Rattle.std.specs.Prelude.{ℕ, ◌+◌, Bool, true, false, cond, not, ◌||◌, List, [], ◌∷◌, Some, None, Option, ◌==◌, nat_le}
 use Rattle.std.specs.Str.{bytes_eq}
-use Rattle.layout.specs.declared.statuses.Status.{Status}
-use Rattle.layout.specs.declared.statuses.Status.TheVariants.{Accepted, UnknownUser, SessionUnavailable, InvalidNumber, WrongVersion, WrongProtocol, AlreadyLoggedIn}
+use Rattle.wire.specs.declared.statuses.Status.{Status}
+use Rattle.wire.specs.declared.statuses.Status.TheVariants.{Accepted, UnknownUser, SessionUnavailable, InvalidNumber, WrongVersion, WrongProtocol, AlreadyLoggedIn}
 use Rattle.account.specs.declared.rows.Row.{Row}
 use Rattle.account.specs.Rows.{found, row_at}
 

@@ -1,7 +1,7 @@
 -- The account table: the rows in use, and how one joins them.
 use Rattle.std.specs.Prelude.{◌≡◌, ℕ, ◌+◌, ◌<◌, Bool, true, false, cond, List, [], ◌∷◌, ◌++◌, length, take, is_some, Ok, Err, Result, nat_lt}
-use Rattle.fault.specs.declared.refusals.Refusal.{Refusal}
-use Rattle.fault.specs.declared.refusals.Refusal.TheVariants.{AccountTaken}
+use Rattle.wire.specs.declared.refusals.Refusal.{Refusal}
+use Rattle.wire.specs.declared.refusals.Refusal.TheVariants.{AccountTaken}
 use Rattle.account.specs.declared.fields.Account.{Account}
 use Rattle.account.specs.declared.rows.Row.{Row}
 use Rattle.account.specs.Rows.{matches, found, row_at}

@@ -2,7 +2,7 @@
 ghost use Rattle.std.specs.Prelude.{◌≡◌, length};
 ghost use Rattle.account.specs.Fields.{all_visible, good, judged, laid, field_of, account_of};
 
-use fault::Refusal;
+use wire::Refusal;
 
 /// The fields that an account goes by. Each is padded with spaces on the right.
 #[derive(Clone, Copy)]
@@ -48,7 +48,7 @@ pub fn lay(field: &mut [u8], text: &[u8]) -> Result<(), Refusal>
     if !is_good(text, field.len()) {
         return Err(Refusal::BadAccountField);
     }
-    memory::lay(field, 0, text);
+    wire::lay(field, 0, text);
     Ok(())
 }
 

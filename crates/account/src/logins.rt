@@ -6,8 +6,8 @@ ghost use Rattle.account.specs.Table.{Whole};
 ghost use Rattle.account.specs.Laws.{Admits};
 
 use crate::table::Accounts;
-use layout::Status;
 use packet::Login;
+use wire::Status;
 
 /// The version of the session protocol that is spoken here, padded with spaces.
 pub const SPOKEN_VERSION: [u8; 5] = *b"1.1  ";

@@ -7,8 +7,8 @@ ghost use Rattle.account.specs.Laws.{Finds};
 use crate::fields::Account;
 use crate::lookups::find;
 use crate::rows::Row;
-use fault::Refusal;
 use std::marker::Model;
+use wire::Refusal;
 
 /// How many rows a table has.
 pub const CAPACITY: usize = 8;

@@ -1,8 +1,8 @@
 -- What is told of the bytes at the front of a capture.
 use Rattle.std.specs.Prelude.{◌≡◌, ℕ, ◌<◌, List, ◌++◌, length, drop, Some, None, Ok, Err, Option, Result}
-use Rattle.fault.specs.declared.faults.Fault.{Fault}
-use Rattle.fault.specs.declared.faults.Fault.TheVariants as F
-use Rattle.layout.specs.Limits.{packet_limit}
+use Rattle.wire.specs.declared.faults.Fault.{Fault}
+use Rattle.wire.specs.declared.faults.Fault.TheVariants as F
+use Rattle.wire.specs.Limits.{packet_limit}
 use Rattle.packet.specs.Values.{Value, encode}
 use Rattle.packet.specs.Decoding.{part, whole, decode}
 use Rattle.packet.specs.Meanings.{value_of}

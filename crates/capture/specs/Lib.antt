@@ -1,4 +1,5 @@
 pub mod Windows
 pub mod Finding
-pub mod Tallies
 pub mod Runs
+pub mod Rows
+pub mod Explained

@@ -1,6 +1,6 @@
 //! How a capture ended, and what it held.
-use crate::tallies::Tally;
-use fault::Fault;
+use packet::LetterCounts;
+use wire::Fault;
 
 /// How a capture ended.
 #[derive(Clone, Copy, PartialEq, Eq, Debug)]
@@ -16,7 +16,7 @@ pub enum Ending {
 /// What a capture held.
 #[derive(Clone, Copy)]
 pub struct Summary {
-    pub tally: Tally,
+    pub tally: LetterCounts,
     /// How many bytes the packets took.
     pub offset: u64,
     pub ending: Ending,

@@ -1,8 +1,8 @@
 //! The first packet of a capture's bytes.
 ghost use Rattle.capture.specs.Finding.{Tells};
 
-use fault::Fault;
 use packet::{Packet, Reader};
+use wire::Fault;
 
 /// A packet, and how many bytes it takes.
 #[derive(Clone, Copy)]

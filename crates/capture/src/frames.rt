@@ -7,13 +7,13 @@
 //!         0         from                   to        PACKET_LIMIT
 //! ```
 ghost use Rattle.std.specs.Prelude.{◌≡◌, ℕ, ◌-◌, ◌≤◌, List, [], length, drop};
-ghost use Rattle.layout.specs.Limits.{packet_limit};
+ghost use Rattle.wire.specs.Limits.{packet_limit};
 ghost use Rattle.capture.specs.Windows.{window, Filled};
 
-use layout::PACKET_LIMIT;
 use std::io;
 use std::io::Read;
 use std::marker::Model;
+use wire::PACKET_LIMIT;
 
 /// Bytes that were read and are not explained yet: as many as the longest packet has, and no more.
 // Fixed memory with two places in it: a frame holds one packet at most, and takes no heap.

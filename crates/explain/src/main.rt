@@ -1,7 +1,7 @@
 //! Says what a capture holds: the bytes of one direction of a connection, on standard input.
 #![tactic(auto)]
 
-use explaining::explain;
+use capture::explain;
 use std::io::{BufWriter, Write};
 
 fn run(rt: &HostRuntime) -> anyhow::Result<()> {

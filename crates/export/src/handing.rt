@@ -1,10 +1,9 @@
 //! How what was made goes out: into what the caller lent, with a number as the answer.
 ghost use Rattle.std.specs.Prelude.{◌≡◌, length, cond, nat_le, MatchResult};
-ghost use Rattle.fault.specs.Refusals.{number};
-ghost use Rattle.memory.specs.Memory.{overlaid};
+ghost use Rattle.wire.specs.Refusals.{number};
+ghost use Rattle.wire.specs.Overlay.{overlaid};
 
-use fault::Refusal;
-use memory::lay;
+use wire::{Refusal, lay};
 
 /// Hands out a sum.
 pub fn hand_sum(made: Result<u64, Refusal>, sum: &mut u64) -> u8

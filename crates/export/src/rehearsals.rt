@@ -2,10 +2,10 @@
 ghost use Rattle.std.specs.Prelude.{◌≡◌, ◌≢◌, ◌≤◌, length};
 
 use crate::handing::hand_trace;
-use fault::Refusal;
-use rehearsing::{NoShelf, rehearse};
-use std::alloc::Global;
+use rehearsal::{NoFiles, rehearse};
 use std::io;
+use std::alloc::Global;
+use wire::Refusal;
 
 /// Rehearses a script, writes its trace at the front of a lent buffer, and tells the trace's length. There are no
 /// files.
@@ -28,6 +28,6 @@ pub extern "C" fn export_rehearse(
 // The trace of a script. It fails only for want of memory: what it reads and writes is in memory.
 fn traced(heap: Global, script: &[u8]) -> io::Result<Vec<u8>> {
     let mut trace = Vec::new(heap);
-    rehearse(heap, script, &mut trace, &mut NoShelf)?;
+    rehearse(heap, script, &mut trace, &mut NoFiles)?;
     Ok(trace)
 }

@@ -9,7 +9,7 @@ use std::alloc::Global;
 pub extern "C" fn export_packets(heap: Global, length: usize, times: u64, sum: &mut u64) -> u8
     ensures { result ≢ 0 → sum.new ≡ sum.old }
 {
-    hand_sum(scenarios::packets(heap, length, times), sum)
+    hand_sum(crate::encoding::packets(heap, length, times), sum)
 }
 
 /// Puts pieces on a ring and takes them: `scenarios::through_ring`.
@@ -23,7 +23,7 @@ pub extern "C" fn export_through_ring(
 ) -> u8
     ensures { result ≢ 0 → sum.new ≡ sum.old }
 {
-    hand_sum(scenarios::through_ring(heap, ring, length, times), sum)
+    hand_sum(crate::ring_runs::through_ring(heap, ring, length, times), sum)
 }
 
 /// Fills a journal: `scenarios::appends`.
@@ -37,7 +37,7 @@ pub extern "C" fn export_appends(
 ) -> u8
     ensures { result ≢ 0 → sum.new ≡ sum.old }
 {
-    hand_sum(scenarios::appends(heap, memory, length, times), sum)
+    hand_sum(crate::journals::appends(heap, memory, length, times), sum)
 }
 
 /// Reads a journal: `scenarios::reads`.
@@ -51,7 +51,7 @@ pub extern "C" fn export_reads(
 ) -> u8
     ensures { result ≢ 0 → sum.new ≡ sum.old }
 {
-    hand_sum(scenarios::reads(heap, memory, length, times), sum)
+    hand_sum(crate::journals::reads(heap, memory, length, times), sum)
 }
 
 /// Copies a saved journal and opens it: `scenarios::opens`.
@@ -65,7 +65,7 @@ pub extern "C" fn export_opens(
 ) -> u8
     ensures { result ≢ 0 → sum.new ≡ sum.old }
 {
-    hand_sum(scenarios::opens(heap, memory, length, times), sum)
+    hand_sum(crate::journals::opens(heap, memory, length, times), sum)
 }
 
 /// Copies a saved journal: `scenarios::copies`.
@@ -79,7 +79,7 @@ pub extern "C" fn export_copies(
 ) -> u8
     ensures { result ≢ 0 → sum.new ≡ sum.old }
 {
-    hand_sum(scenarios::copies(heap, memory, length, times), sum)
+    hand_sum(crate::journals::copies(heap, memory, length, times), sum)
 }
 
 /// Brings a seat level: `scenarios::levels`.
@@ -93,7 +93,7 @@ pub extern "C" fn export_levels(
 ) -> u8
     ensures { result ≢ 0 → sum.new ≡ sum.old }
 {
-    hand_sum(scenarios::levels(heap, memory, length, times), sum)
+    hand_sum(crate::leveling::levels(heap, memory, length, times), sum)
 }
 
 /// Brings a seat level over lines with a pacing layer: `scenarios::levels_paced`.
@@ -109,7 +109,7 @@ pub extern "C" fn export_levels_paced(
     ensures { result ≢ 0 → sum.new ≡ sum.old }
 {
     hand_sum(
-        scenarios::levels_paced(heap, pace, memory, length, times),
+        crate::leveling::levels_paced(heap, pace, memory, length, times),
         sum,
     )
 }
@@ -126,5 +126,5 @@ pub extern "C" fn export_lives(
 ) -> u8
     ensures { result ≢ 0 → sum.new ≡ sum.old }
 {
-    hand_sum(scenarios::lives(heap, memory, length, held, times), sum)
+    hand_sum(crate::leveling::lives(heap, memory, length, held, times), sum)
 }

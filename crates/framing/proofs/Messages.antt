@@ -3,10 +3,10 @@ use Rattle.std.proofs.Common.{◌≡◌, ℕ, ◌+◌, ◌-◌, ◌≤◌, true,
 use borrow.Rule.Slice.PartMut.{put_mid}
 use Rattle.std.proofs.lemmas.List.{drop-drop, take_rest, drop_all}
 use Rattle.std.proofs.lemmas.Bool.{le-leb, le-ltb, cond-true, cond-false}
-use Rattle.fault.specs.declared.refusals.Refusal.{Refusal}
-use Rattle.layout.specs.Limits.{packet_limit}
-use Rattle.layout.specs.Numbers.{little}
-use Rattle.layout.proofs.Coded.{cut}
+use Rattle.wire.specs.declared.refusals.Refusal.{Refusal}
+use Rattle.wire.specs.Limits.{packet_limit}
+use Rattle.wire.specs.Numbers.{little}
+use Rattle.wire.proofs.Coded.{cut}
 use Rattle.packet.specs.Values.{sequenced, encode}
 use Rattle.line.specs.Lines.{LineView}
 use Rattle.message_log.specs.Meaning.{Meaning, nth}

@@ -2,9 +2,9 @@
 use Rattle.std.proofs.Common.{◌≡◌, ℕ, ◌-◌, ◌<◌, ◌≤◌, true, false, List, ◌++◌, length, take, drop, Ok, Err, Result, sym, refl, ap, ◌∙◌, subst, arith}
 use Rattle.std.proofs.lemmas.List.{take_at}
 use Rattle.std.proofs.lemmas.Bool.{le-leb, lt-leb, cond-true}
-use Rattle.fault.specs.declared.refusals.Refusal.{Refusal}
-use Rattle.fault.specs.declared.refusals.Refusal.TheVariants.{LineFull}
-use Rattle.layout.proofs.Coded.{cut}
+use Rattle.wire.specs.declared.refusals.Refusal.{Refusal}
+use Rattle.wire.specs.declared.refusals.Refusal.TheVariants.{LineFull}
+use Rattle.wire.proofs.Coded.{cut}
 use Rattle.packet.specs.Values.{Value, encode}
 use Rattle.line.specs.Lines.{LineView, Put, joined, fits}
 use Rattle.message_log.specs.Calls.{settled, fronted}

@@ -1,8 +1,8 @@
 -- What the length number alone decides of a frame.
 use Rattle.std.proofs.Common.{◌≡◌, ℕ, ◌+◌, ◌<◌, ◌≤◌, ltb, List, length, Some, Ok, Err, Result, sym, ap, ◌∙◌, arith}
 use Rattle.std.proofs.lemmas.Bool.{lt-ltb, le-ltb, ltb-false, cond-true, cond-false}
-use Rattle.fault.specs.declared.faults.PacketFault.{PacketFault}
-use Rattle.layout.proofs.Coded.{cut}
+use Rattle.wire.specs.declared.faults.PacketFault.{PacketFault}
+use Rattle.wire.proofs.Coded.{cut}
 use Rattle.packet.specs.Values.{Value}
 use Rattle.packet.specs.Decoding.{decode, packet_length, counted, head_number, bodied, part, wholly, next}
 use Rattle.packet.proofs.Forth.{took}

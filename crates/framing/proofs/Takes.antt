@@ -3,7 +3,7 @@ use Rattle.std.proofs.Common.{◌≡◌, ℕ, ◌+◌, ◌≤◌, List, [], ◌+
 use borrow.Rule.Slice.PartMut.{put_mid}
 use Rattle.std.proofs.lemmas.List.{drop-append-le, take-append-drop}
 use Rattle.line.specs.Lines.{LineView, Sound, Taken, handed}
-use Rattle.memory.specs.Memory.{laid}
+use Rattle.wire.specs.Overlay.{laid}
 use Rattle.rules.specs.Frames.{given}
 use Rattle.framing.specs.Filling.{Filled}
 

@@ -1,7 +1,7 @@
 -- What a call of an end comes to, in the words of the rules.
 use Rattle.std.specs.Prelude.{◌<◌, cond, length, Ok, Err, Result}
-use Rattle.fault.specs.declared.refusals.Refusal.{Refusal}
-use Rattle.fault.specs.declared.refusals.Refusal.TheVariants.{ShortBuffer}
+use Rattle.wire.specs.declared.refusals.Refusal.{Refusal}
+use Rattle.wire.specs.declared.refusals.Refusal.TheVariants.{ShortBuffer}
 use Rattle.line.specs.Lines.{LineView}
 use Rattle.rules.specs.declared.answers.Received.{Received}
 use Rattle.rules.specs.declared.answers.Received.TheVariants as A

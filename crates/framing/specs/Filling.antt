@@ -1,8 +1,8 @@
 -- What a frame is filled with.
 use Rattle.std.specs.Prelude.{◌≡◌, ℕ, cond, ◌&&◌, List, length, take, nat_le}
-use Rattle.layout.specs.Limits.{packet_limit}
+use Rattle.wire.specs.Limits.{packet_limit}
 use Rattle.line.specs.Lines.{LineView}
-use Rattle.memory.specs.Memory.{laid}
+use Rattle.wire.specs.Overlay.{laid}
 use Rattle.rules.specs.Frames.{lack, given, left, Free}
 
 -- how many bytes are wanted behind the first `held` of a frame's buffer

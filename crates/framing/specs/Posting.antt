@@ -1,8 +1,8 @@
 -- What it answers to put a packet on a line, and what the line and the outgoing buffer hold then.
 use Rattle.std.specs.Prelude.{◌≡◌, ℕ, cond, List, Ok, Err, Result, nat_lt}
-use Rattle.fault.specs.declared.refusals.Refusal.{Refusal}
-use Rattle.fault.specs.declared.refusals.Refusal.TheVariants.{NoSuchMessage, ShortBuffer, LineFull}
-use Rattle.layout.specs.Limits.{packet_limit}
+use Rattle.wire.specs.declared.refusals.Refusal.{Refusal}
+use Rattle.wire.specs.declared.refusals.Refusal.TheVariants.{NoSuchMessage, ShortBuffer, LineFull}
+use Rattle.wire.specs.Limits.{packet_limit}
 use Rattle.packet.specs.Values.{Value, sequenced, encode}
 use Rattle.packet.specs.Writing.{writing}
 use Rattle.line.specs.Lines.{LineView, joined, fits}

@@ -4,8 +4,8 @@ ghost use Rattle.std.specs.Prelude.{◌≡◌, ◌+◌, ◌-◌, ◌≤◌, leng
 ghost use Rattle.rules.specs.Frames.{lack};
 ghost use Rattle.framing.specs.Filling.{Filled, wanted};
 
-use layout::PACKET_LIMIT;
 use line::SteadyLine;
+use wire::PACKET_LIMIT;
 
 /// Takes once from the line, at most what the frame still lacks, and says how many bytes came. The frame is the
 /// first `held` bytes of its buffer, and what comes is laid behind it. Where the buffer could not hold the longest

@@ -5,9 +5,8 @@ ghost use Rattle.packet.specs.Decoding.{decode, part};
 ghost use Rattle.packet.specs.Meanings.{answer_of};
 ghost use Rattle.rules.specs.Frames.{among, placed, judged};
 
-use fault::PacketFault;
-use layout::Letter;
 use packet::{Packet, Reader};
+use wire::{Letter, PacketFault};
 
 /// Whether the bytes are a part, which they are whatever letters an end takes: their length number is not all in, or it
 /// counts more bytes than there are.

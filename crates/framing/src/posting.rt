@@ -1,8 +1,8 @@
 //! Packets put on a line from the front of the outgoing buffer.
 //! The room of the line is asked for first, so that a refusal leaves the buffer alone.
 ghost use Rattle.std.specs.Prelude.{◌≡◌, ◌+◌, ◌≤◌, true, ◌∷◌, ◌++◌, length};
-ghost use Rattle.layout.specs.Limits.{message_limit, packet_limit};
-ghost use Rattle.layout.specs.Numbers.{little};
+ghost use Rattle.wire.specs.Limits.{message_limit, packet_limit};
+ghost use Rattle.wire.specs.Numbers.{little};
 ghost use Rattle.line.specs.Lines.{Put, fits};
 ghost use Rattle.message_log.specs.Meaning.{nth};
 ghost use Rattle.message_log.specs.Calls.{has, fronted};
@@ -10,12 +10,10 @@ ghost use Rattle.packet.specs.Meanings.{value_of};
 ghost use Rattle.packet.specs.Values.{sequenced, encode};
 ghost use Rattle.framing.specs.Posting.{Posted, posting, posting_message};
 
-use fault::Refusal;
-use layout::{Letter, PACKET_LIMIT, number_bytes};
 use line::Line;
-use memory::lay;
 use message_log::Log;
 use packet::Packet;
+use wire::{Letter, PACKET_LIMIT, Refusal, lay, number_bytes};
 
 /// Whether the line has the room for a packet.
 #[tactic(auto, using(packet::proofs::Back::length_encode))]

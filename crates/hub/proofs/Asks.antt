@@ -1,10 +1,10 @@
 -- What the calls that are neither a receive nor a send come to.
 use Rattle.std.proofs.Common.{◌≡◌, ℕ, ◌≤◌, Bool, true, false, cond, ltb, List, [], length, Result, sym, refl, ap, ◌∙◌}
 use Rattle.std.proofs.lemmas.Bool.{and_right, cond-true, cond-false, le-ltb}
-use Rattle.fault.specs.declared.refusals.Refusal.{Refusal}
-use Rattle.layout.specs.Limits.{message_limit, packet_limit}
-use Rattle.layout.specs.declared.goodbyes.GoodByeReason.{GoodByeReason}
-use Rattle.layout.specs.declared.goodbyes.GoodByeReason.TheVariants as G
+use Rattle.wire.specs.declared.refusals.Refusal.{Refusal}
+use Rattle.wire.specs.Limits.{message_limit, packet_limit}
+use Rattle.wire.specs.declared.goodbyes.GoodByeReason.{GoodByeReason}
+use Rattle.wire.specs.declared.goodbyes.GoodByeReason.TheVariants as G
 use Rattle.packet.specs.Values.{encode, good_bye, unsequenced}
 use Rattle.line.specs.Lines.{fits}
 use Rattle.rules.specs.declared.phases.HubPhase.{HubPhase}

@@ -1,10 +1,10 @@
 -- What a send comes to where this is due.
 use Rattle.std.proofs.Common.{◌≡◌, ◌≤◌, false, true, length, Some, None, Ok, Err, Option, Result, sym, refl, ap, ◌∙◌}
 use Rattle.std.proofs.lemmas.Bool.{cond-true, cond-false, le-ltb}
-use Rattle.fault.specs.declared.refusals.Refusal.{Refusal}
-use Rattle.fault.specs.declared.refusals.Refusal.TheVariants.{LineFull}
-use Rattle.layout.specs.Limits.{packet_limit}
-use Rattle.layout.specs.declared.letters.Letter.{Letter}
+use Rattle.wire.specs.declared.refusals.Refusal.{Refusal}
+use Rattle.wire.specs.declared.refusals.Refusal.TheVariants.{LineFull}
+use Rattle.wire.specs.Limits.{packet_limit}
+use Rattle.wire.specs.declared.letters.Letter.{Letter}
 use Rattle.packet.specs.Values.{Value, encode, letter}
 use Rattle.line.specs.Lines.{fits}
 use Rattle.rules.specs.declared.phases.HubPhase.{HubPhase}
@@ -16,7 +16,7 @@ use Rattle.rules.specs.Hub.{hub_due, hub_posts, is_shut}
 use Rattle.framing.specs.Posting.{roomy}
 use Rattle.framing.specs.Calling.{answered, unless_short}
 use Rattle.framing.proofs.Posts.{roomy_granted, roomy_refused}
-use Rattle.footing.specs.Footings.{enters}
+use Rattle.hub.specs.State.{enters}
 use Rattle.hub.specs.Sends.{told, sends}
 
 -- a phase is entered before a packet is written, or after

@@ -1,6 +1,6 @@
 -- What the calls of the hub on its connection that are neither a receive nor a send do to its side of a pair.
 use Rattle.std.specs.Prelude.{ℕ, cond, List}
-use Rattle.fault.specs.declared.refusals.Refusal.TheVariants.{ShortBuffer}
+use Rattle.wire.specs.declared.refusals.Refusal.TheVariants.{ShortBuffer}
 use Rattle.rules.specs.declared.phases.HubPhase.TheVariants.{Waiting}
 use Rattle.rules.specs.State.{Pair}
 use Rattle.rules.specs.Changes.{refuses, hub_leaves, wiped}

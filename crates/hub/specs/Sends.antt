@@ -1,6 +1,6 @@
 -- What a send does to the hub's side of a pair.
 use Rattle.std.specs.Prelude.{Option}
-use Rattle.layout.specs.declared.letters.Letter.{Letter}
+use Rattle.wire.specs.declared.letters.Letter.{Letter}
 use Rattle.rules.specs.State.{Pair, Outcome}
 use Rattle.rules.specs.Hub.{Sending, hub_sends}
 

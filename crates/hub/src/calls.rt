@@ -2,7 +2,7 @@
 //! Those that may be refused judge everything before they change anything.
 ghost use Rattle.std.specs.Prelude.{◌≡◌, ℕ, ◌≤◌, List, length};
 ghost use Rattle.account.specs.declared.rows.Row.{Row};
-ghost use Rattle.layout.specs.Limits.{packet_limit};
+ghost use Rattle.wire.specs.Limits.{packet_limit};
 ghost use Rattle.line.specs.Lines.{LineView, cleared};
 ghost use Rattle.message_log.specs.Meaning.{Meaning};
 ghost use Rattle.framing.specs.Calling.{answered, unless_short};
@@ -14,12 +14,11 @@ ghost use Rattle.hub.specs.Asks.{awaits, tells, times};
 
 use crate::hubs::Hub;
 use account::Accounts;
-use fault::Refusal;
 use framing::{SILENCE_LIMIT, has_room, one_more};
-use layout::{GoodByeReason, MESSAGE_LIMIT, PACKET_LIMIT};
 use line::Line;
 use packet::Packet;
 use rules::HubPhase;
+use wire::{GoodByeReason, MESSAGE_LIMIT, PACKET_LIMIT, Refusal};
 
 // A wait for a login that is longer than so many ticks ends the connection.
 const WAITING_LIMIT: u16 = 300;
@@ -44,9 +43,9 @@ impl Hub {
     // Nobody is logged in any more, in this phase, and frame and counts are cleared.
     fn reset(&mut self, phase: HubPhase, accounts: &mut Accounts)
         ensures after { self.new ≡ cleared_in phase self.old }
-        ensures rows { accounts.new.rows ≡ unmarked accounts.old.rows self.old.footing.row }
+        ensures rows { accounts.new.rows ≡ unmarked accounts.old.rows self.old.state.row }
     {
-        self.footing.leave(phase, accounts);
+        self.state.leave(phase, accounts);
         self.filled = 0;
         self.unsent = 0;
         self.silent = 0;
@@ -73,7 +72,7 @@ impl Hub {
         if !has_room(packet, down) {
             return Err(Refusal::LineFull);
         }
-        if !self.footing.is_serving() {
+        if !self.state.is_serving() {
             return Err(Refusal::WrongPhase);
         }
         self.write(packet, down, out)
@@ -103,14 +102,14 @@ impl Hub {
     // Ends a connection that was silent for too long, and a wait for a login that was too long.
     fn time_out<D: Line>(&mut self, accounts: &mut Accounts, down: &mut D, out: &mut [u8])
         requires { packet_limit ≤ length out.old }
-        ensures { (log : Meaning) (up : LineView) (frame : List ℕ) → side_of self.new log up (D.Line.view down.new) accounts.new.rows frame out.new ≡ hub_timed self.old.footing.phase (side_of self.old log up (D.Line.view down.old) accounts.old.rows frame out.old) }
+        ensures { (log : Meaning) (up : LineView) (frame : List ℕ) → side_of self.new log up (D.Line.view down.new) accounts.new.rows frame out.new ≡ hub_timed self.old.state.phase (side_of self.old log up (D.Line.view down.old) accounts.old.rows frame out.old) }
     {
-        match self.footing.phase() {
+        match self.state.phase() {
             HubPhase::Waiting if self.waited > WAITING_LIMIT => {
                 self.dismiss(GoodByeReason::LoginTimeout, accounts, down, out);
             }
             HubPhase::Serving { .. } if self.silent > SILENCE_LIMIT => {
-                self.footing.leave(HubPhase::Shut, accounts);
+                self.state.leave(HubPhase::Shut, accounts);
             }
             _ => {}
         }

@@ -7,13 +7,13 @@ ghost use Rattle.message_log.specs.Meaning.{Meaning};
 ghost use Rattle.rules.specs.Sides.{hub_side, no_hub};
 ghost use Rattle.hub.specs.Ends.{end_of, running_of, side_of, unfinished};
 
-use footing::Footing;
+use crate::state::HubState;
 use rules::HubPhase;
 
 /// A hub: where it stands with its connection, whether its session is finished, its frame and its counts.
 #[derive(Clone, Copy)]
 pub struct Hub {
-    pub(crate) footing: Footing,
+    pub(crate) state: HubState,
     /// Whether publishing is finished in the session of its log.
     pub(crate) finished: bool,
     /// How many bytes of a packet that is not whole yet stand at the front of its frame's buffer, which is lent anew at
@@ -31,7 +31,7 @@ impl Hub {
         ensures { (log : Meaning) (up down : LineView) (rows : List Row) (frame out : List ℕ) → side_of result log up down rows frame out ≡ hub_side (unfinished log) no_hub up down rows frame out }
     {
         Hub {
-            footing: Footing::new(),
+            state: HubState::new(),
             finished: false,
             filled: 0,
             unsent: 0,
@@ -44,7 +44,7 @@ impl Hub {
     pub fn phase(&self) -> HubPhase
         ensures { (frame : List ℕ) → result ≡ (end_of self.now frame).phase }
     {
-        self.footing.phase()
+        self.state.phase()
     }
 
     /// Whether publishing is finished in the session of its log.

@@ -1,22 +1,21 @@
 //! What the hub hears.
 //! One take, at most what the frame still lacks; a packet that is whole then is acted on.
 ghost use Rattle.std.specs.Prelude.{◌≡◌, ℕ, ◌≤◌, List, length, take};
-ghost use Rattle.layout.specs.Limits.{packet_limit};
+ghost use Rattle.wire.specs.Limits.{packet_limit};
 ghost use Rattle.line.specs.Lines.{LineView};
 ghost use Rattle.rules.specs.Frames.{lack, Free};
 ghost use Rattle.framing.specs.Calling.{Fewer};
-ghost use Rattle.footing.specs.Acts.{closing};
+ghost use Rattle.hub.specs.Acts.{closing};
 ghost use Rattle.hub.specs.Ends.{side_of};
 ghost use Rattle.hub.specs.Receives.{Receives, hears};
 
 use crate::hubs::Hub;
 use account::Accounts;
-use fault::{PacketFault, Refusal};
 use framing::{fill, judge};
-use layout::{GoodByeReason, PACKET_LIMIT};
 use line::{Line, SteadyLine};
 use message_log::Log;
 use rules::Received;
+use wire::{GoodByeReason, PACKET_LIMIT, PacketFault, Refusal};
 
 impl Hub {
     /// Takes once from the up line, and acts on the packet if that makes one whole. Refuses by `ShortBuffer` and,
@@ -39,7 +38,7 @@ impl Hub {
         if out.len() < PACKET_LIMIT {
             return Err(Refusal::ShortBuffer);
         }
-        if !self.footing.listens() {
+        if !self.state.listens() {
             return Err(Refusal::WrongPhase);
         }
         // No `?`: a fault ends the connection here.
@@ -73,12 +72,12 @@ impl Hub {
         let filled = self.filled + count;
         self.filled = 0;
         self.silent = 0;
-        match judge(&frame[0..filled], self.footing.letters())? {
+        match judge(&frame[0..filled], self.state.letters())? {
             None => {
                 self.filled = filled;
                 Ok(Received::Part)
             }
-            Some(packet) => self.footing.act(packet, log, accounts),
+            Some(packet) => self.state.act(packet, log, accounts),
         }
     }
 }

@@ -2,7 +2,7 @@
 //! What is due is decided first, and written then.
 ghost use Rattle.std.specs.Prelude.{◌≡◌, ℕ, ◌≤◌, true, List, [], length};
 ghost use Rattle.account.specs.declared.rows.Row.{Row};
-ghost use Rattle.layout.specs.Limits.{packet_limit};
+ghost use Rattle.wire.specs.Limits.{packet_limit};
 ghost use Rattle.line.specs.Lines.{LineView};
 ghost use Rattle.message_log.specs.Meaning.{Meaning, nth};
 ghost use Rattle.message_log.specs.Calls.{has};
@@ -15,16 +15,15 @@ ghost use Rattle.rules.specs.Hub.{hub_gone};
 ghost use Rattle.hub.specs.Ends.{side_of};
 ghost use Rattle.hub.specs.Sends.{sends};
 
+use crate::dues::Due;
 use crate::hubs::Hub;
 use account::Accounts;
-use fault::Refusal;
-use footing::Due;
 use framing::{post, post_message};
-use layout::{GoodByeReason, Letter, PACKET_LIMIT};
 use line::Line;
 use message_log::Log;
 use packet::Packet;
 use rules::HubPhase;
+use wire::{GoodByeReason, Letter, PACKET_LIMIT, Refusal};
 
 impl Hub {
     /// Writes what is due, one packet at most, and answers its letter. Refuses by `ShortBuffer`, by `WrongPhase` where
@@ -41,23 +40,23 @@ impl Hub {
         if out.len() < PACKET_LIMIT {
             return Err(Refusal::ShortBuffer);
         }
-        if self.footing.is_shut() {
+        if self.state.is_shut() {
             return Err(Refusal::WrongPhase);
         }
-        match self.footing.due(self.unsent, self.finished, log) {
+        match self.state.due(self.unsent, self.finished, log) {
             Due::Nothing => Ok(None),
             Due::Shut => {
-                self.footing.leave(HubPhase::Shut, accounts);
+                self.state.leave(HubPhase::Shut, accounts);
                 Ok(None)
             }
             Due::Message { number, then } => {
                 self.write_message(number, log, down, out)?;
-                self.footing.enter(then, accounts);
+                self.state.enter(then, accounts);
                 Ok(Some(Letter::Sequenced))
             }
             Due::Packet { packet, then } => {
                 self.write(packet, down, out)?;
-                self.footing.enter(then, accounts);
+                self.state.enter(then, accounts);
                 Ok(Some(packet.letter()))
             }
         }
@@ -110,7 +109,7 @@ impl Hub {
         ensures { (log : Meaning) (up : LineView) (frame : List ℕ) → side_of self.new log up (D.Line.view down.new) accounts.new.rows frame out.new ≡ hub_gone reason (side_of self.old log up (D.Line.view down.old) accounts.old.rows frame out.old) }
     {
         let _ = self.write(good_bye(reason), down, out);
-        self.footing.leave(HubPhase::Shut, accounts);
+        self.state.leave(HubPhase::Shut, accounts);
     }
 }
 

@@ -8,8 +8,8 @@ ghost use Rattle.rules.specs.Calls.{publish, finish, roll};
 ghost use Rattle.hub.specs.Ends.{side_of};
 
 use crate::hubs::Hub;
-use fault::Refusal;
 use message_log::Log;
+use wire::Refusal;
 
 impl Hub {
     /// Publishes a message: it is appended to the log. Refuses as the log does, and then by `SessionFinished`; a
@@ -40,7 +40,7 @@ impl Hub {
     pub fn roll<G: Log>(&mut self, log: &mut G) -> Result<(), Refusal>
         ensures { (up down : LineView) (rows : List Row) (frame out : List ℕ) → answered result (side_of self.new (G.Log.view log.new) up down rows frame out) ≡ roll (side_of self.old (G.Log.view log.old) up down rows frame out) }
     {
-        if self.footing.is_busy() {
+        if self.state.is_busy() {
             return Err(Refusal::HubBusy);
         }
         let Some(session) = log.session().checked_add(1) else {

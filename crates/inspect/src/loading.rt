@@ -2,7 +2,7 @@
 ghost use Rattle.std.specs.Prelude.{◌≡◌, nat_le};
 ghost use Rattle.message_log.specs.Meaning.{size_limit};
 
-use journal::JOURNAL_LIMIT;
+use logs::JOURNAL_LIMIT;
 use std::{fs, io};
 use thiserror::Error;
 

@@ -6,8 +6,8 @@ mod showing;
 
 use crate::loading::load;
 use crate::showing::Report;
-use std::io::{BufWriter, Write};
 use std::{env, io};
+use std::io::{BufWriter, Write};
 
 /// Shows each file that is named on the command line.
 fn run(rt: &HostRuntime) -> io::Result<()> {

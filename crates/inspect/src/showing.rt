@@ -1,12 +1,11 @@
 //! Showing what a saved journal holds.
-use dump::{ROW, row};
-use fault::{Refusal, Unmade};
-use journal::{JOURNAL_LEAST, JOURNAL_LIMIT, Journal};
+use capture::rows::{ROW, row};
+use logs::{JOURNAL_LEAST, JOURNAL_LIMIT, Journal, fault_at};
 use message_log::Log;
-use record::fault_at;
-use std::alloc::Global;
 use std::io;
+use std::alloc::Global;
 use std::io::Write;
+use wire::{Refusal, Unmade};
 
 /// Where journals are shown, and the heap that it takes.
 #[derive(Drop)]

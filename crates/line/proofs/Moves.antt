@@ -1,6 +1,6 @@
 -- The steps of a transfer.
 use Rattle.std.proofs.Common.{◌≡◌, ℕ, ◌+◌, ◌-◌, ◌≤◌, List, ◌++◌, length, take, drop, Result, sym, ap, ◌∙◌, append_assoc, arith, length-append}
-use Rattle.fault.specs.declared.refusals.Refusal.{Refusal}
+use Rattle.wire.specs.declared.refusals.Refusal.{Refusal}
 use Rattle.line.specs.Lines.{LineView, Put, Taken, joined}
 use Rattle.line.specs.Transfers.{Moved}
 use Rattle.line.proofs.Takes.{same_view, put_after, front_length, taken_whole}

@@ -1,7 +1,7 @@
 -- What a line means, and what each call does to that meaning.
 use Rattle.std.specs.Prelude.{◌≡◌, ℕ, ◌-◌, ◌≤◌, min, Bool, cond, List, [], ◌++◌, length, take, drop, Ok, Err, Result, nat_le}
-use Rattle.fault.specs.declared.refusals.Refusal.{Refusal}
-use Rattle.fault.specs.declared.refusals.Refusal.TheVariants.{LineFull}
+use Rattle.wire.specs.declared.refusals.Refusal.{Refusal}
+use Rattle.wire.specs.declared.refusals.Refusal.TheVariants.{LineFull}
 use Rattle.line.specs.Sizes.{LineSize}
 
 pub record LineView : Type 0 where

@@ -1,6 +1,6 @@
 -- The full sizes that a line may have, and the lengths of the pieces in which bytes go through it.
 use Rattle.std.specs.Prelude.{ℕ, ◌≤◌}
-use Rattle.layout.specs.Limits.{packet_limit}
+use Rattle.wire.specs.Limits.{packet_limit}
 
 abbrev pub smallest_size : ℕ
 smallest_size = packet_limit

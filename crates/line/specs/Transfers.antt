@@ -1,7 +1,7 @@
 -- What a transfer between two lines does.
 use Rattle.std.specs.Prelude.{◌≡◌, ℕ, ◌≤◌, min, List, [], ◌++◌, length, drop, Ok, Err, Result}
-use Rattle.fault.specs.declared.refusals.Refusal.{Refusal}
-use Rattle.fault.specs.declared.refusals.Refusal.TheVariants.{ShortBuffer}
+use Rattle.wire.specs.declared.refusals.Refusal.{Refusal}
+use Rattle.wire.specs.declared.refusals.Refusal.TheVariants.{ShortBuffer}
 use Rattle.line.specs.Lines.{LineView, joined}
 
 -- n bytes went from the line v to the line d, which are w and e then. What moved, followed by what stayed, is

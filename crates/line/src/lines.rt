@@ -2,7 +2,7 @@
 ghost use Rattle.std.specs.Prelude.{◌≡◌, ◌≤◌, length};
 ghost use Rattle.line.specs.Lines.{LineView, Sound, Put, Taken, cleared};
 
-use fault::Refusal;
+use wire::Refusal;
 
 /// A line means four things: the bytes waiting, the room now, the full size and the hand-out limit.
 /// The **room** is how many bytes can be put now, the **full size** is the room of a line in which nothing

@@ -2,7 +2,7 @@
 ghost use Rattle.line.specs.Sizes.{LineSize, PieceLength};
 ghost use Rattle.std.specs.Prelude.{Decides};
 
-use layout::PACKET_LIMIT;
+use wire::PACKET_LIMIT;
 
 /// The smallest full size of a line: the longest packet fits.
 pub const SMALLEST_SIZE: usize = PACKET_LIMIT;

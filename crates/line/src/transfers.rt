@@ -3,7 +3,7 @@ ghost use Rattle.std.specs.Prelude.{◌≡◌, length};
 ghost use Rattle.line.specs.Transfers.{Transferred};
 
 use crate::lines::Line;
-use fault::Refusal;
+use wire::Refusal;
 
 /// Moves what waits in one line to the other, in pieces through a buffer, as far as there is room, and says
 /// how many bytes went. A buffer that holds no byte is refused.

@@ -4,12 +4,18 @@
 //! SESSION NUMBER` and `logout USER COMPUTER`. Blank lines and lines that begin with `#` are passed over.
 #![tactic(auto)]
 
+mod commands;
+mod desks;
+mod laws;
 mod showing;
+mod words;
 
-use admitting::{Desk, Word, is_passed_over, read, word_of};
+use crate::commands::{is_passed_over, read};
+use crate::desks::Desk;
+use crate::words::{Word, word_of};
 use showing::{show_answer, show_table};
-use std::alloc::{AllocError, Global};
 use std::io;
+use std::alloc::{AllocError, Global};
 use std::io::{BufRead, BufReader, BufWriter, Write};
 
 /// The words of a line.

@@ -1,6 +1,6 @@
 //! Answers and the table in words.
+use crate::desks::Answer;
 use account::Accounts;
-use admitting::Answer;
 use std::io;
 use std::io::Write;
 

@@ -1,10 +1,10 @@
 -- What each call on a log answers, and what the log and the buffer hold then.
 use Rattle.std.specs.Prelude.{◌≡◌, ℕ, ◌+◌, ◌-◌, Bool, true, false, cond, ◌&&◌, List, length, Ok, Err, Result, ◌==◌, nat_le, nat_lt}
 use Rattle.std.specs.Borrow.{Bor}
-use Rattle.fault.specs.declared.refusals.Refusal.{Refusal}
-use Rattle.fault.specs.declared.refusals.Refusal.TheVariants.{MessageTooLong, SessionZero, NoSuchMessage, ShortBuffer, LogFull, NoSession}
-use Rattle.memory.specs.Memory.{laid}
-use Rattle.layout.specs.Limits.{message_limit}
+use Rattle.wire.specs.declared.refusals.Refusal.{Refusal}
+use Rattle.wire.specs.declared.refusals.Refusal.TheVariants.{MessageTooLong, SessionZero, NoSuchMessage, ShortBuffer, LogFull, NoSession}
+use Rattle.wire.specs.Overlay.{laid}
+use Rattle.wire.specs.Limits.{message_limit}
 use Rattle.message_log.specs.Meaning.{Meaning, room, nth, count}
 
 -- the answer to a message of n bytes, by the session, the room, the places left and the overhead

@@ -1,7 +1,7 @@
 -- What the answers say in the words of a log.
 use Rattle.std.specs.Prelude.{◌≡◌, ℕ, ◌+◌, ◌<◌, ◌≤◌, ◌⊎◌, length, Ok, Err}
-use Rattle.fault.specs.declared.refusals.Refusal.TheVariants.{MessageTooLong, LogFull, NoSession}
-use Rattle.layout.specs.Limits.{message_limit}
+use Rattle.wire.specs.declared.refusals.Refusal.TheVariants.{MessageTooLong, LogFull, NoSession}
+use Rattle.wire.specs.Limits.{message_limit}
 use Rattle.message_log.specs.Meaning.{Meaning, room, count, nth}
 use Rattle.message_log.specs.Calls.{takes, measured}
 

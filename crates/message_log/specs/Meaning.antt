@@ -1,6 +1,6 @@
 -- What a log means: a session, a list of messages, and three numbers that stay as they were when it was made.
 use Rattle.std.specs.Prelude.{◌≡◌, ℕ, ◌+◌, ◌-◌, ◌<◌, ◌≤◌, List, [], ◌∷◌, ◌++◌, length, sum_by, slice_index, slice_index_or}
-use Rattle.layout.specs.Limits.{message_limit}
+use Rattle.wire.specs.Limits.{message_limit}
 
 -- the session is 0 for none; the overhead is what each message takes beside its own bytes; a place is needed for each message
 pub record Meaning : Type 0 where

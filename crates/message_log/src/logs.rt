@@ -3,7 +3,7 @@ ghost use Rattle.std.specs.Prelude.{◌≡◌, length};
 ghost use Rattle.message_log.specs.Meaning.{Meaning, Sound, count, nth, begun, added};
 ghost use Rattle.message_log.specs.Calls.{takes, begins, settled, measured, reads, fronted};
 
-use fault::Refusal;
+use wire::Refusal;
 
 /// The largest size of a log in bytes, and the largest overhead and number of places.
 pub const SIZE_LIMIT: usize = 16_777_216;

@@ -2,8 +2,8 @@
 ghost use Rattle.std.specs.Prelude.{◌≡◌};
 ghost use Rattle.message_log.specs.Calls.{verdict};
 
-use fault::Refusal;
-use layout::limits::MESSAGE_LIMIT;
+use wire::Refusal;
+use wire::limits::MESSAGE_LIMIT;
 
 /// What a log has left.
 #[derive(Clone, Copy)]

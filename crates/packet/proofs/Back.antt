@@ -1,15 +1,15 @@
 -- A written packet reads back as itself.
 use Rattle.std.proofs.Common.{◌≡◌, ℕ, ◌+◌, ◌^◌, ◌<◌, List, ◌∷◌, ◌++◌, length, get_or, take, drop, Ok, Result, sym, refl, ap, ◌∙◌, arith}
 use Rattle.std.proofs.lemmas.List.{take_at, drop_at, drop-drop, get_or-drop}
-use Rattle.fault.specs.declared.faults.PacketFault.{PacketFault}
-use Rattle.layout.specs.declared.statuses.Status.{Status}
-use Rattle.layout.specs.declared.logouts.LogoutReason.{LogoutReason}
-use Rattle.layout.specs.declared.goodbyes.GoodByeReason.{GoodByeReason}
-use Rattle.layout.specs.declared.letters.Letter.TheVariants as L
-use Rattle.layout.specs.Letters.{letter_byte}
-use Rattle.layout.specs.Numbers.{little, number}
-use Rattle.layout.proofs.Numbers.{number_little}
-use Rattle.layout.proofs.Coded.{status_back, logout_back, good_bye_back}
+use Rattle.wire.specs.declared.faults.PacketFault.{PacketFault}
+use Rattle.wire.specs.declared.statuses.Status.{Status}
+use Rattle.wire.specs.declared.logouts.LogoutReason.{LogoutReason}
+use Rattle.wire.specs.declared.goodbyes.GoodByeReason.{GoodByeReason}
+use Rattle.wire.specs.declared.letters.Letter.TheVariants as L
+use Rattle.wire.specs.Letters.{letter_byte}
+use Rattle.wire.specs.Numbers.{little, number}
+use Rattle.wire.proofs.Numbers.{number_little}
+use Rattle.wire.proofs.Coded.{status_back, logout_back, good_bye_back}
 use Rattle.packet.specs.Values.{Value, Fields, login_request, login_response, sequenced, unsequenced, synchronization_complete, retransmission_request, logout_request, good_bye, end_of_session, hub_heartbeat, seat_heartbeat, test, encode, letter, body, length_number}
 use Rattle.packet.specs.Decoding.{content, wholly, next}
 use Rattle.packet.specs.Laws.{ReadsBack}

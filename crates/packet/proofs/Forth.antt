@@ -3,18 +3,18 @@ use Rattle.std.proofs.Common.{◌≡◌, ℕ, suc, ◌+◌, ◌-◌, ◌/◌, �
 use Rattle.std.proofs.lemmas.List.{take_all, take-append-drop, drop-drop, drop_more, length-take-le, nil_from_length}
 use Rattle.std.proofs.ByRecursion.{All-take, All-drop, All-get_or}
 use Rattle.std.proofs.lemmas.Bool.{ltb-false, eqb-false}
-use Rattle.fault.specs.declared.faults.Field.TheVariants as Field
-use Rattle.fault.specs.declared.faults.PacketFault.{PacketFault}
-use Rattle.fault.specs.declared.faults.PacketFault.TheVariants.{WrongContent, UnknownLetter}
-use Rattle.layout.specs.declared.letters.Letter.{Letter}
-use Rattle.layout.specs.declared.letters.Letter.TheVariants as L
-use Rattle.layout.specs.Limits.{length_limit}
-use Rattle.layout.specs.Letters.{letter_byte, letter_of, letters, allowed}
-use Rattle.layout.specs.Codes.{status_byte, status_of, statuses, logout_byte, logout_reasons, good_bye_byte, good_bye_reasons}
-use Rattle.layout.specs.Coded.{coded}
-use Rattle.layout.specs.Numbers.{little, number}
-use Rattle.layout.proofs.Numbers.{little_number, number_below}
-use Rattle.layout.proofs.Coded.{cut, coded_byte}
+use Rattle.wire.specs.declared.faults.Field.TheVariants as Field
+use Rattle.wire.specs.declared.faults.PacketFault.{PacketFault}
+use Rattle.wire.specs.declared.faults.PacketFault.TheVariants.{WrongContent, UnknownLetter}
+use Rattle.wire.specs.declared.letters.Letter.{Letter}
+use Rattle.wire.specs.declared.letters.Letter.TheVariants as L
+use Rattle.wire.specs.Limits.{length_limit}
+use Rattle.wire.specs.Letters.{letter_byte, letter_of, letters, allowed}
+use Rattle.wire.specs.Codes.{status_byte, status_of, statuses, logout_byte, logout_reasons, good_bye_byte, good_bye_reasons}
+use Rattle.wire.specs.Coded.{coded}
+use Rattle.wire.specs.Numbers.{little, number}
+use Rattle.wire.proofs.Numbers.{little_number, number_below}
+use Rattle.wire.proofs.Coded.{cut, coded_byte}
 use Rattle.packet.specs.Values.{Value, Valid, Fields, login_request, login_response, sequenced, unsequenced, synchronization_complete, retransmission_request, logout_request, good_bye, end_of_session, hub_heartbeat, seat_heartbeat, test, encode, letter, body, length_number}
 use Rattle.packet.specs.Decoding.{decode, counted, head_number, opened, content, whole, next}
 use Rattle.packet.specs.Laws.{Bytes, WritesBack}

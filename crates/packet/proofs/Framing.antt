@@ -2,13 +2,13 @@
 use Rattle.std.proofs.Common.{◌≡◌, ℕ, ◌+◌, ◌-◌, ◌*◌, ◌/◌, ◌%◌, ◌^◌, ◌<◌, ◌≤◌, true, cond, leb, List, ◌++◌, length, get_or, take, drop, Ok, Err, sym, ap, ◌∙◌, arith, length-append}
 use Rattle.std.proofs.lemmas.List.{take_at}
 use Rattle.std.proofs.lemmas.Bool.{le-ltb, ne_eqb, cond-false, cond-true, and_parts, leb-true}
-use Rattle.fault.specs.declared.faults.PacketFault.TheVariants.{WrongLength}
-use Rattle.layout.specs.declared.letters.Letter.{Letter}
-use Rattle.layout.specs.declared.letters.Letter.TheVariants as L
-use Rattle.layout.specs.Limits.{length_limit}
-use Rattle.layout.specs.Letters.{letter_byte, shortest, longest, allowed}
-use Rattle.layout.proofs.Numbers.{number_little}
-use Rattle.layout.proofs.Coded.{letter_back}
+use Rattle.wire.specs.declared.faults.PacketFault.TheVariants.{WrongLength}
+use Rattle.wire.specs.declared.letters.Letter.{Letter}
+use Rattle.wire.specs.declared.letters.Letter.TheVariants as L
+use Rattle.wire.specs.Limits.{length_limit}
+use Rattle.wire.specs.Letters.{letter_byte, shortest, longest, allowed}
+use Rattle.wire.proofs.Numbers.{number_little}
+use Rattle.wire.proofs.Coded.{letter_back}
 use Rattle.packet.specs.Values.{framed}
 use Rattle.packet.specs.Decoding.{decode, counted, head_number, bodied, opened, content, wholly, next}
 

@@ -2,17 +2,17 @@
 use Rattle.std.proofs.Common.{◌≡◌, ℕ, ◌+◌, ◌-◌, ◌<◌, ◌≤◌, eqb, ltb, List, ◌++◌, length, get_or, take, drop, Ok, Err, Result, sym, refl, ap, ◌∙◌, subst, inl, inr, arith, length-append, length-drop}
 use Rattle.std.proofs.lemmas.List.{get_or_append_left, get_or-take, take-append-le, drop-append-le, length-take-le}
 use Rattle.std.proofs.lemmas.Bool.{cases_lt, lt-ltb, le-ltb, eq-eqb, ne_eqb, cond-true, cond-false}
-use Rattle.fault.specs.declared.faults.Field.TheVariants as Field
-use Rattle.fault.specs.declared.faults.PacketFault.{PacketFault}
-use Rattle.fault.specs.declared.faults.PacketFault.TheVariants.{LengthZero, LengthOverLimit, UnknownLetter, WrongLength, WrongContent}
-use Rattle.layout.specs.declared.letters.Letter.{Letter}
-use Rattle.layout.specs.declared.letters.Letter.TheVariants as L
-use Rattle.layout.specs.Limits.{length_limit}
-use Rattle.layout.specs.Letters.{letter_byte, letter_of, letters, allowed}
-use Rattle.layout.specs.Codes.{status_byte, status_of, statuses, logout_byte, logout_of, logout_reasons, good_bye_byte, good_bye_of, good_bye_reasons}
-use Rattle.layout.proofs.Coded.{cut, coded_fault}
+use Rattle.wire.specs.declared.faults.Field.TheVariants as Field
+use Rattle.wire.specs.declared.faults.PacketFault.{PacketFault}
+use Rattle.wire.specs.declared.faults.PacketFault.TheVariants.{LengthZero, LengthOverLimit, UnknownLetter, WrongLength, WrongContent}
+use Rattle.wire.specs.declared.letters.Letter.{Letter}
+use Rattle.wire.specs.declared.letters.Letter.TheVariants as L
+use Rattle.wire.specs.Limits.{length_limit}
+use Rattle.wire.specs.Letters.{letter_byte, letter_of, letters, allowed}
+use Rattle.wire.specs.Codes.{status_byte, status_of, statuses, logout_byte, logout_of, logout_reasons, good_bye_byte, good_bye_of, good_bye_reasons}
+use Rattle.wire.proofs.Coded.{cut, coded_fault}
 use Rattle.packet.specs.Values.{Value, Valid, encode, letter, length_number}
-use Rattle.packet.specs.Decoding.{Answer, decode, counted, head_number, bodied, opened, content, part, whole, wholly, next}
+use Rattle.packet.specs.Decoding.{Decoded, decode, counted, head_number, bodied, opened, content, part, whole, wholly, next}
 use Rattle.packet.specs.Laws.{Bytes, Front, IgnoresRest, BeginningsAreParts, TellsEarly, Phaseless, KnowsNoPhase, Told}
 use Rattle.packet.proofs.Framing.{within, counted_good, head_of_little}
 use Rattle.packet.proofs.Back.{length_encode}
@@ -153,7 +153,7 @@ knows_no_phase bs q =
     (λ u. failed (opened (get_or bs 2 0) (take (n - 1) (drop 3 bs))) _ q (Phaseless q) (opened_phaseless q (get_or bs 2 0) (take (n - 1) (drop 3 bs))) (λ v f. fine q (whole v)))))
 
 -- all the laws, of one reading
-pub told : (bs : List ℕ) (r : Result Answer PacketFault) → Bytes bs → r ≡ decode bs → Told bs r
+pub told : (bs : List ℕ) (r : Result Decoded PacketFault) → Bytes bs → r ≡ decode bs → Told bs r
 told bs r s e =
     record {
       answer = e;

@@ -1,8 +1,8 @@
 -- Bytes laid over others from a place on.
 use Rattle.std.proofs.Common.{◌≡◌, ℕ, ◌+◌, ◌≤◌, List, ◌∷◌, ◌++◌, length, drop, ap, ◌∙◌, arith}
 use Rattle.std.proofs.lemmas.List.{drop-drop}
-use Rattle.memory.specs.Memory.{laid, overlaid}
-use Rattle.memory.proofs.Laid.{overlaid_is, length_laid, laid_laid}
+use Rattle.wire.specs.Overlay.{laid, overlaid}
+use Rattle.wire.proofs.Laid.{overlaid_is, length_laid, laid_laid}
 
 -- one piece right after another, as two writes tell it
 pub then : (l o p x y : List ℕ) (at to : ℕ) → at ≤ length l → to ≡ at + length x → o ≡ laid l at x → p ≡ laid o to y → p ≡ laid l at (x ++ y)

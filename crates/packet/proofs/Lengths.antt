@@ -1,9 +1,9 @@
 -- What the length number alone tells of a packet.
 use Rattle.std.proofs.Common.{◌≡◌, ℕ, ◌+◌, ◌-◌, ◌<◌, ◌≤◌, ltb, List, ◌++◌, length, get_or, take, drop, Some, None, Ok, Err, sym, ap, ◌∙◌, inl, inr, arith, length-append}
 use Rattle.std.proofs.lemmas.Bool.{cases_lt, le-ltb, ltb-true, ltb-false, cond-false}
-use Rattle.fault.specs.declared.faults.PacketFault.{PacketFault}
-use Rattle.layout.specs.Limits.{packet_limit}
-use Rattle.layout.proofs.Coded.{cut}
+use Rattle.wire.specs.declared.faults.PacketFault.{PacketFault}
+use Rattle.wire.specs.Limits.{packet_limit}
+use Rattle.wire.proofs.Coded.{cut}
 use Rattle.packet.specs.Values.{Value, Valid, encode, letter, length_number}
 use Rattle.packet.specs.Decoding.{decode, packet_length, counted, head_number, bodied, opened, part, wholly, next}
 use Rattle.packet.proofs.Framing.{within, counted_good}

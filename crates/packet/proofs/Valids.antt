@@ -1,11 +1,11 @@
 -- Packets that can be carried: each field fits, and the letter allows the length.
 use Rattle.std.proofs.Common.{◌≡◌, ℕ, ◌^◌, ◌<◌, ◌≤◌, true, List, length, refl, arith, length-append}
 use Rattle.std.proofs.lemmas.Bool.{and_from, le-leb}
-use Rattle.layout.specs.Limits.{message_limit}
-use Rattle.layout.specs.Letters.{shortest, longest, allowed}
-use Rattle.layout.specs.declared.letters.Letter.{Letter}
-use Rattle.layout.specs.declared.letters.Letter.TheVariants as L
-use Rattle.layout.specs.declared.statuses.Status.{Status}
+use Rattle.wire.specs.Limits.{message_limit}
+use Rattle.wire.specs.Letters.{shortest, longest, allowed}
+use Rattle.wire.specs.declared.letters.Letter.{Letter}
+use Rattle.wire.specs.declared.letters.Letter.TheVariants as L
+use Rattle.wire.specs.declared.statuses.Status.{Status}
 use Rattle.packet.specs.Values.{Valid, login_request, login_response, sequenced, unsequenced, length_number}
 
 in_range : (l : Letter) (n : ℕ) → shortest l ≤ n → n ≤ longest l → allowed l n ≡ true

@@ -2,14 +2,14 @@
 use Rattle.std.proofs.Common.{◌≡◌, ℕ, ◌+◌, ◌/◌, ◌%◌, ◌≤◌, true, List, ◌∷◌, ◌++◌, length, take, drop, Ok, Err, sym, refl, ap, ◌∙◌, arith}
 use Rattle.std.proofs.lemmas.List.{take-append-le}
 use Rattle.std.proofs.lemmas.Bool.{le-ltb, eq-eqb, and_from, cond-true, cond-false}
-use Rattle.fault.specs.declared.faults.PacketFault.{PacketFault}
-use Rattle.fault.specs.declared.refusals.Refusal.TheVariants.{BadPacket}
-use Rattle.layout.specs.Limits.{length_limit}
-use Rattle.layout.specs.Letters.{letter_byte}
-use Rattle.layout.specs.Numbers.{little}
+use Rattle.wire.specs.declared.faults.PacketFault.{PacketFault}
+use Rattle.wire.specs.declared.refusals.Refusal.TheVariants.{BadPacket}
+use Rattle.wire.specs.Limits.{length_limit}
+use Rattle.wire.specs.Letters.{letter_byte}
+use Rattle.wire.specs.Numbers.{little}
 use Rattle.packet.specs.Values.{Value, Valid, Fields, login_request, login_response, sequenced, unsequenced, synchronization_complete, retransmission_request, logout_request, good_bye, end_of_session, hub_heartbeat, seat_heartbeat, test, encode, letter, body, length_number}
 use Rattle.packet.specs.Decoding.{decode}
-use Rattle.memory.specs.Memory.{laid}
+use Rattle.wire.specs.Overlay.{laid}
 use Rattle.packet.specs.Writing.{Written, widths, writable, granting, writing}
 use Rattle.packet.proofs.Framing.{within}
 use Rattle.packet.proofs.Back.{reads_back, length_encode}

@@ -1,18 +1,18 @@
 -- What a reader says of the bytes that it is given: the first packet, a part of one, or a fault.
 use Rattle.std.specs.Prelude.{ℕ, ◌+◌, ◌-◌, ◌*◌, cond, List, length, take, drop, Some, None, Ok, Err, Option, Result, ◌==◌, nat_lt, slice_index}
-use Rattle.fault.specs.declared.faults.PacketFault.{PacketFault}
-use Rattle.fault.specs.declared.faults.PacketFault.TheVariants.{LengthZero, LengthOverLimit, WrongLength}
-use Rattle.layout.specs.declared.letters.Letter.{Letter}
-use Rattle.layout.specs.declared.letters.Letter.TheVariants as L
-use Rattle.layout.specs.Limits.{length_limit}
-use Rattle.layout.specs.Numbers.{number}
-use Rattle.layout.specs.Letters.{letter_of, allowed}
-use Rattle.layout.specs.Codes.{status_of, logout_of, good_bye_of}
+use Rattle.wire.specs.declared.faults.PacketFault.{PacketFault}
+use Rattle.wire.specs.declared.faults.PacketFault.TheVariants.{LengthZero, LengthOverLimit, WrongLength}
+use Rattle.wire.specs.declared.letters.Letter.{Letter}
+use Rattle.wire.specs.declared.letters.Letter.TheVariants as L
+use Rattle.wire.specs.Limits.{length_limit}
+use Rattle.wire.specs.Numbers.{number}
+use Rattle.wire.specs.Letters.{letter_of, allowed}
+use Rattle.wire.specs.Codes.{status_of, logout_of, good_bye_of}
 use Rattle.packet.specs.Values.{Value, login_request, login_response, sequenced, unsequenced, synchronization_complete, retransmission_request, logout_request, good_bye, end_of_session, hub_heartbeat, seat_heartbeat, test}
 
-pub data Answer : Type 0 where
-  part : Answer
-  whole : Value → Answer
+pub data Decoded : Type 0 where
+  part : Decoded
+  whole : Value → Decoded
 
 -- go on with what was read; a fault ends the reading
 abbrev pub next : {X Y : Type 0} → Result X PacketFault → (X → Result Y PacketFault) → Result Y PacketFault
@@ -47,14 +47,14 @@ content L.Test b = Ok (test b)
 abbrev pub opened : ℕ → List ℕ → Result Value PacketFault
 opened b bytes = next (letter_of b) (λ l. cond (allowed l (length bytes + 1)) (content l bytes) (Err WrongLength))
 
-abbrev pub wholly : Result Value PacketFault → Result Answer PacketFault
+abbrev pub wholly : Result Value PacketFault → Result Decoded PacketFault
 wholly r = next r (λ v. Ok (whole v))
 
 -- a head with a good length number: a part until all the bytes that it counts are in
-abbrev pub bodied : List ℕ → ℕ → Result Answer PacketFault
+abbrev pub bodied : List ℕ → ℕ → Result Decoded PacketFault
 bodied bs n = cond (nat_lt (length bs) (n + 2)) (Ok part) (wholly (opened (slice_index bs 2) (take (n - 1) (drop 3 bs))))
 
-unfoldable pub decode : List ℕ → Result Answer PacketFault
+unfoldable pub decode : List ℕ → Result Decoded PacketFault
 decode bs = cond (nat_lt (length bs) 2) (Ok part) (next (counted (head_number bs)) (bodied bs))
 
 -- the length of the first packet with its length number, once that is in

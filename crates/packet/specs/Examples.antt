@@ -1,15 +1,15 @@
 -- Worked examples: bytes, and what a reader says of them.
 use Rattle.std.specs.Prelude.{◌≡◌, ℕ, List, [], ◌∷◌, Ok, Err, Result}
 use Rattle.std.specs.List.{AllByRecursion}
-use Rattle.fault.specs.declared.faults.PacketFault.{PacketFault}
-use Rattle.fault.specs.declared.faults.PacketFault.TheVariants.{LengthZero, LengthOverLimit, WrongLength}
-use Rattle.layout.specs.declared.statuses.Status.TheVariants.{Accepted}
+use Rattle.wire.specs.declared.faults.PacketFault.{PacketFault}
+use Rattle.wire.specs.declared.faults.PacketFault.TheVariants.{LengthZero, LengthOverLimit, WrongLength}
+use Rattle.wire.specs.declared.statuses.Status.TheVariants.{Accepted}
 use Rattle.packet.specs.Values.{login_response, sequenced}
-use Rattle.packet.specs.Decoding.{Answer, part, whole, decode}
+use Rattle.packet.specs.Decoding.{Decoded, part, whole, decode}
 
 pub record Example : Type 0 where
   pub bytes : List ℕ
-  pub says : Result Answer PacketFault
+  pub says : Result Decoded PacketFault
 
 abbrev pub examples : List Example
 examples =

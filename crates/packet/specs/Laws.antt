@@ -1,12 +1,12 @@
 -- What holds of reading and writing together, in words that do not follow the steps of either.
 use Rattle.std.specs.Prelude.{◌≡◌, ℕ, ◌<◌, ◌≤◌, List, ◌++◌, length, take, drop, Ok, Err, Result, ◌≢◌}
 use Rattle.std.specs.List.{AllByRecursion}
-use Rattle.fault.specs.declared.faults.Field.TheVariants as Field
-use Rattle.fault.specs.declared.faults.PacketFault.{PacketFault}
-use Rattle.fault.specs.declared.faults.PacketFault.TheVariants.{LengthZero, LengthOverLimit, UnknownLetter, OutOfPlace, WrongLength, WrongContent}
-use Rattle.layout.specs.Limits.{length_limit}
+use Rattle.wire.specs.declared.faults.Field.TheVariants as Field
+use Rattle.wire.specs.declared.faults.PacketFault.{PacketFault}
+use Rattle.wire.specs.declared.faults.PacketFault.TheVariants.{LengthZero, LengthOverLimit, UnknownLetter, OutOfPlace, WrongLength, WrongContent}
+use Rattle.wire.specs.Limits.{length_limit}
 use Rattle.packet.specs.Values.{Value, Valid, encode}
-use Rattle.packet.specs.Decoding.{Answer, part, whole, head_number, decode}
+use Rattle.packet.specs.Decoding.{Decoded, part, whole, head_number, decode}
 
 abbrev pub Bytes : List ℕ → Type 0
 Bytes bs = AllByRecursion (λ b. b < 256) bs
@@ -59,7 +59,7 @@ abbrev pub KnowsNoPhase : Type 0
 KnowsNoPhase = (bs : List ℕ) (fault : PacketFault) → decode bs ≡ Err fault → Phaseless fault
 
 -- all of it, of one reading
-pub record Told (bs : List ℕ) (r : Result Answer PacketFault) : Type 0 where
+pub record Told (bs : List ℕ) (r : Result Decoded PacketFault) : Type 0 where
   -- the answer is what the bytes mean
   pub answer : r ≡ decode bs
   -- a packet that is accepted stands at the front as it is written

@@ -4,3 +4,4 @@ pub mod Meanings
 pub mod Laws
 pub mod Writing
 pub mod Examples
+pub mod LetterCounts

@@ -1,13 +1,13 @@
 -- What packets say, and the bytes that say it.
 use Rattle.std.specs.Prelude.{◌≡◌, ℕ, ◌+◌, ◌^◌, ◌<◌, true, List, [], ◌∷◌, ◌++◌, length}
-use Rattle.layout.specs.declared.letters.Letter.{Letter}
-use Rattle.layout.specs.declared.letters.Letter.TheVariants as L
-use Rattle.layout.specs.declared.statuses.Status.{Status}
-use Rattle.layout.specs.declared.logouts.LogoutReason.{LogoutReason}
-use Rattle.layout.specs.declared.goodbyes.GoodByeReason.{GoodByeReason}
-use Rattle.layout.specs.Numbers.{little}
-use Rattle.layout.specs.Letters.{letter_byte, allowed}
-use Rattle.layout.specs.Codes.{status_byte, logout_byte, good_bye_byte}
+use Rattle.wire.specs.declared.letters.Letter.{Letter}
+use Rattle.wire.specs.declared.letters.Letter.TheVariants as L
+use Rattle.wire.specs.declared.statuses.Status.{Status}
+use Rattle.wire.specs.declared.logouts.LogoutReason.{LogoutReason}
+use Rattle.wire.specs.declared.goodbyes.GoodByeReason.{GoodByeReason}
+use Rattle.wire.specs.Numbers.{little}
+use Rattle.wire.specs.Letters.{letter_byte, allowed}
+use Rattle.wire.specs.Codes.{status_byte, logout_byte, good_bye_byte}
 
 -- what a packet says, apart from where its bytes lie
 pub data Value : Type 0 where

@@ -1,11 +1,11 @@
 -- What a writer answers, and what the buffer holds then.
 use Rattle.std.specs.Prelude.{◌≡◌, ℕ, ◌+◌, ◌<◌, Bool, true, cond, ◌&&◌, List, ◌++◌, length, take, drop, IfOk, Ok, Err, Result, ◌==◌, ◌≢◌, nat_lt}
-use Rattle.fault.specs.declared.faults.PacketFault.{PacketFault}
-use Rattle.fault.specs.declared.faults.PacketFault.TheVariants.{LengthOverLimit, WrongLength}
-use Rattle.fault.specs.declared.refusals.Refusal.{Refusal}
-use Rattle.fault.specs.declared.refusals.Refusal.TheVariants.{ShortBuffer, BadPacket}
-use Rattle.layout.specs.Limits.{length_limit}
-use Rattle.layout.specs.Letters.{allowed}
+use Rattle.wire.specs.declared.faults.PacketFault.{PacketFault}
+use Rattle.wire.specs.declared.faults.PacketFault.TheVariants.{LengthOverLimit, WrongLength}
+use Rattle.wire.specs.declared.refusals.Refusal.{Refusal}
+use Rattle.wire.specs.declared.refusals.Refusal.TheVariants.{ShortBuffer, BadPacket}
+use Rattle.wire.specs.Limits.{length_limit}
+use Rattle.wire.specs.Letters.{allowed}
 use Rattle.packet.specs.Values.{Value, login_request, login_response, sequenced, unsequenced, synchronization_complete, retransmission_request, logout_request, good_bye, end_of_session, hub_heartbeat, seat_heartbeat, test, letter, length_number, encode}
 use Rattle.packet.specs.Decoding.{part, whole, decode}
 use Rattle.packet.specs.Laws.{Bytes}

@@ -4,13 +4,15 @@
 //! bytes given. `Packet::write` writes a packet at the front of a lent buffer.
 //!
 //! Left out: lines, phases and what an end does with a packet. Here no letter is out of place.
-//! The types, in the order a reader meets them: `Login`, `Packet`, `Reader`.
+//! The types, in the order a reader meets them: `Login`, `Packet`, `Reader`, `LetterCounts`.
 #![tactic(auto)]
 
 pub mod laws;
+pub mod letter_counts;
 pub mod packets;
 pub mod reading;
 pub mod writing;
 
+pub use letter_counts::LetterCounts;
 pub use packets::{Login, Packet};
 pub use reading::Reader;

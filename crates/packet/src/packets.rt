@@ -3,7 +3,7 @@ ghost use Rattle.std.specs.Prelude.{◌≡◌};
 ghost use Rattle.packet.specs.Values.{letter};
 ghost use Rattle.packet.specs.Meanings.{value_of};
 
-use layout::{GoodByeReason, Letter, LogoutReason, Status};
+use wire::{GoodByeReason, Letter, LogoutReason, Status};
 
 /// What a seat says when it logs in. The four texts are padded with spaces on the right.
 #[derive(Clone, Copy)]

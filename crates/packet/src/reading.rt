@@ -1,16 +1,15 @@
 //! The reader: the first packet of lent bytes, or a part of one, or a fault.
 ghost use Rattle.std.specs.Prelude.{◌≡◌, ◌+◌, ◌*◌, ◌<◌, true, length, take, drop, slice_index};
-ghost use Rattle.layout.specs.declared.letters.Letter.TheVariants.{LoginResponse};
-ghost use Rattle.layout.specs.Limits.{length_limit};
-ghost use Rattle.layout.specs.Numbers.{number as number_of};
-ghost use Rattle.layout.specs.Letters.{allowed};
+ghost use Rattle.wire.specs.declared.letters.Letter.TheVariants.{LoginResponse};
+ghost use Rattle.wire.specs.Limits.{length_limit};
+ghost use Rattle.wire.specs.Numbers.{number as number_of};
+ghost use Rattle.wire.specs.Letters.{allowed};
 ghost use Rattle.packet.specs.Decoding.{counted, content as content_of, opened as opened_of, decode, packet_length};
 ghost use Rattle.packet.specs.Laws.{Told};
 ghost use Rattle.packet.specs.Meanings.{values_of, answer_of};
 
 use crate::packets::{Login, Packet};
-use fault::PacketFault;
-use layout::{GoodByeReason, LENGTH_LIMIT, Letter, LogoutReason, Status};
+use wire::{GoodByeReason, LENGTH_LIMIT, Letter, LogoutReason, PacketFault, Status};
 
 /// Reads the first packet of the bytes that it is lent.
 #[derive(Clone, Copy)]

@@ -7,18 +7,16 @@
 //!         +--------+-------+----------------------+ - - - - - - - - +
 //! ```
 ghost use Rattle.std.specs.Prelude.{◌≡◌, ◌+◌, ◌≤◌, true, ◌∷◌, ◌++◌, length, drop, IfOk};
-ghost use Rattle.layout.specs.Limits.{length_limit};
-ghost use Rattle.layout.specs.Numbers.{little};
+ghost use Rattle.wire.specs.Limits.{length_limit};
+ghost use Rattle.wire.specs.Numbers.{little};
 ghost use Rattle.packet.specs.declared.packets.Packet.TheVariants.{LoginRequest};
 ghost use Rattle.packet.specs.Meanings.{value_of};
 ghost use Rattle.packet.specs.Values.{Fields, Valid, body, length_number};
-ghost use Rattle.memory.specs.Memory.{laid};
+ghost use Rattle.wire.specs.Overlay.{laid};
 ghost use Rattle.packet.specs.Writing.{Written, widths, writable as writable_of};
 
 use crate::packets::{Login, Packet};
-use fault::{PacketFault, Refusal};
-use layout::{PACKET_LIMIT, number_bytes};
-use memory::lay;
+use wire::{PACKET_LIMIT, PacketFault, Refusal, lay, number_bytes};
 
 impl Packet<'_> {
     /// Writes the packet at the front of `out` and gives its length. A buffer that is too short is refused

@@ -1,7 +1,7 @@
 -- The calls that concern both ends come to what the two made of their sides.
 use Rattle.std.proofs.Common.{◌≡◌, Bool, true, false, cond, eqb, leb, Ok, Err, Result, sym, refl, ap, subst, ◌∙◌}
-use Rattle.fault.specs.declared.refusals.Refusal.{Refusal}
-use Rattle.fault.specs.declared.refusals.Refusal.TheVariants.{ShortBuffer, NoSession, NothingToFetch}
+use Rattle.wire.specs.declared.refusals.Refusal.{Refusal}
+use Rattle.wire.specs.declared.refusals.Refusal.TheVariants.{ShortBuffer, NoSession, NothingToFetch}
 use Rattle.line.specs.Lines.{LineView, cleared}
 use Rattle.message_log.specs.Meaning.{count}
 use Rattle.rules.specs.declared.phases.HubPhase.{HubPhase}

@@ -1,10 +1,10 @@
 -- How receives, one after the other, come to what an end drains; and what a step of one call tells.
 use Rattle.std.proofs.Common.{◌≡◌, ℕ, ◌+◌, ◌<◌, ◌≤◌, true, false, ◌||◌, List, length, Ok, Err, Option, Result, sym, refl, subst, ap, add_assoc, zero-add, add-zero, arith}
 use Rattle.std.proofs.lemmas.Bool.{or_from, lt-ltb, le-ltb}
-use Rattle.fault.specs.declared.faults.Fault.{Fault}
-use Rattle.fault.specs.declared.refusals.Refusal.{Refusal}
-use Rattle.layout.specs.Limits.{packet_limit}
-use Rattle.layout.specs.declared.letters.Letter.{Letter}
+use Rattle.wire.specs.declared.faults.Fault.{Fault}
+use Rattle.wire.specs.declared.refusals.Refusal.{Refusal}
+use Rattle.wire.specs.Limits.{packet_limit}
+use Rattle.wire.specs.declared.letters.Letter.{Letter}
 use Rattle.packet.specs.Values.{Value}
 use Rattle.rules.specs.declared.answers.Received.{Received}
 use Rattle.rules.specs.declared.answers.Report.{Report}
@@ -12,7 +12,8 @@ use Rattle.rules.specs.declared.answers.Received.TheVariants.{Nothing, Part, Act
 use Rattle.rules.specs.State.{Pair, Outcome}
 use Rattle.rules.specs.Hub.{hub_sends}
 use Rattle.rules.specs.Seat.{seat_sends}
-use Rattle.rules.specs.Rounds.{HubReceives, SeatReceives, HubReceive, SeatReceive, HubSend, SeatSend, Round, going, over, onward, Drains, ends, more, Took, Put, too_short, lent_short, Deed, Step, short_buffer, hub_receives, seat_receives, hub_sends_one, seat_sends_one, rounds}
+use Rattle.rules.specs.declared.answers.Answer.TheVariants as Answer
+use Rattle.rules.specs.Rounds.{HubReceives, SeatReceives, HubReceive, SeatReceive, HubSend, SeatSend, Round, going, stop, continue, Drains, ends, more, too_short, lent_short, Effect, Step, short_buffer, hub_receives, seat_receives, hub_sends_one, seat_sends_one, rounds}
 use Rattle.pair.specs.Steps.{HubTakes, SeatTakes, HubPuts, SeatPuts, Goes}
 
 -- so many packets were acted on, from the first pair to the second, and the receives go on
@@ -23,10 +24,10 @@ module _ (R : Pair → Outcome Received → Type 0) where
   pub ahead_none : (s : Pair) → Ahead R s 0 s
   ahead_none s = record { then = λ n f u d. subst (λ m. Drains R s m f u) (sym (zero-add n)) d }
 
-  pub ahead_more : (s t : Pair) (o : Outcome Received) (k j : ℕ) → Ahead R s k t → R t o → going o.answer ≡ onward j → Ahead R s (k + j) o.after
+  pub ahead_more : (s t : Pair) (o : Outcome Received) (k j : ℕ) → Ahead R s k t → R t o → going o.answer ≡ continue j → Ahead R s (k + j) o.after
   ahead_more s t o k j a r g = record { then = λ n f u d. subst (λ m. Drains R s m f u) (sym (add_assoc k j n)) (a.then (j + n) f u (more t o j n f u r g d)) }
 
-  pub ahead_ends : (s t : Pair) (o : Outcome Received) (k : ℕ) (f : Option Fault) → Ahead R s k t → R t o → going o.answer ≡ over f → Drains R s k f o.after
+  pub ahead_ends : (s t : Pair) (o : Outcome Received) (k : ℕ) (f : Option Fault) → Ahead R s k t → R t o → going o.answer ≡ stop f → Drains R s k f o.after
   ahead_ends s t o k f a r g = subst (λ m. Drains R s m f o.after) (add-zero k) (a.then 0 f o.after (ends t o f r g))
 
 -- a buffer that holds the longest packet is not too short
@@ -37,7 +38,7 @@ pub both_long : (a b : List ℕ) → packet_limit ≤ length a → packet_limit 
 both_long a b h k = or_from _ _ (long a h) (long b k)
 
 -- a receive to which no short buffer is lent
-hub_step : (s : Pair) (d : Deed) (answer : Result Received Refusal) → lent_short HubReceive s ≡ false → Step s HubReceive d → d.answer ≡ Took answer → HubReceives s (record { answer = answer; after = d.after })
+hub_step : (s : Pair) (d : Effect) (answer : Result Received Refusal) → lent_short HubReceive s ≡ false → Step s HubReceive d → d.answer ≡ Answer.Received answer → HubReceives s (record { answer = answer; after = d.after })
 hub_step s _ a f (short_buffer _ e) g = (cc)
 hub_step s _ a f (hub_receives o e r) g = let h : o.answer ≡ a = cc in subst (λ x. HubReceives s (record { answer = x; after = o.after })) h r
 
@@ -45,7 +46,7 @@ pub hub_received : {s t : Pair} {answer : Result Received Refusal} → HubTakes 
     HubReceives s (record { answer = answer; after = t })
 hub_received {s} {t} {answer} h f o = hub_step s _ answer (both_long s.buffers.hub_frame s.buffers.out f o) h refl
 
-seat_step : (s : Pair) (d : Deed) (answer : Result Received Refusal) → lent_short SeatReceive s ≡ false → Step s SeatReceive d → d.answer ≡ Took answer → SeatReceives s (record { answer = answer; after = d.after })
+seat_step : (s : Pair) (d : Effect) (answer : Result Received Refusal) → lent_short SeatReceive s ≡ false → Step s SeatReceive d → d.answer ≡ Answer.Received answer → SeatReceives s (record { answer = answer; after = d.after })
 seat_step s _ a f (short_buffer _ e) g = (cc)
 seat_step s _ a f (seat_receives o e r) g = let h : o.answer ≡ a = cc in subst (λ x. SeatReceives s (record { answer = x; after = o.after })) h r
 
@@ -54,14 +55,14 @@ pub seat_received : {s t : Pair} {answer : Result Received Refusal} → SeatTake
 seat_received {s} {t} {answer} h f o = seat_step s _ answer (both_long s.buffers.seat_frame s.buffers.out f o) h refl
 
 -- a send to which no short buffer is lent, granted or refused, leaves the pair as the rule says
-hub_sent_by : (s : Pair) (d : Deed) → lent_short HubSend s ≡ false → Step s HubSend d → d.after ≡ (hub_sends s).after
+hub_sent_by : (s : Pair) (d : Effect) → lent_short HubSend s ≡ false → Step s HubSend d → d.after ≡ (hub_sends s).after
 hub_sent_by s _ f (short_buffer _ e) = (cc)
 hub_sent_by s _ f (hub_sends_one e) = refl
 
 pub hub_sent : (s t : Pair) (answer : Result (Option Letter) Refusal) → lent_short HubSend s ≡ false → HubPuts s answer t → t ≡ (hub_sends s).after
 hub_sent s t a f (wrote, h) = hub_sent_by s _ f h
 
-seat_sent_by : (s : Pair) (d : Deed) → lent_short SeatSend s ≡ false → Step s SeatSend d → d.after ≡ (seat_sends s).after
+seat_sent_by : (s : Pair) (d : Effect) → lent_short SeatSend s ≡ false → Step s SeatSend d → d.after ≡ (seat_sends s).after
 seat_sent_by s _ f (short_buffer _ e) = (cc)
 seat_sent_by s _ f (seat_sends_one e) = refl
 
@@ -69,7 +70,7 @@ pub seat_sent : (s t : Pair) (answer : Result (Option Letter) Refusal) → lent_
 seat_sent s t a f h = seat_sent_by s _ f h
 
 -- a receive acts on one packet at most
-pub one_at_most : (answer : Result Received Refusal) (k : ℕ) → going answer ≡ onward k → k ≤ 1
+pub one_at_most : (answer : Result Received Refusal) (k : ℕ) → going answer ≡ continue k → k ≤ 1
 one_at_most (Ok Nothing) k e = (cc)
 one_at_most (Ok Part) k e = let h : k ≡ 0 = cc in omega arith
 one_at_most (Ok (Acted letter)) k e = let h : k ≡ 1 = cc in omega arith

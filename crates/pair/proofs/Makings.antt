@@ -1,7 +1,7 @@
 -- What a set-up that is not refused makes.
 use Rattle.std.proofs.Common.{◌≡◌, Bool, true, false, ◌||◌, Ok, Result, sym, ap, ◌∙◌}
 use Rattle.std.proofs.lemmas.Bool.{cond-true, cond-false}
-use Rattle.fault.specs.declared.refusals.Refusal.{Refusal}
+use Rattle.wire.specs.declared.refusals.Refusal.{Refusal}
 use Rattle.account.specs.Fields.{account_of}
 use Rattle.rules.specs.State.{Running, HubEnd, SeatEnd, Account, Pair}
 use Rattle.rules.specs.Rounds.{too_short}

@@ -1,8 +1,8 @@
 -- What a call makes of one side of a pair, it makes of the pair.
 use Rattle.std.proofs.Common.{◌≡◌, ℕ, Bool, true, false, cond, leb, List, length, None, Ok, Err, Option, Result, sym, refl, ap, subst, ◌∙◌}
-use Rattle.fault.specs.declared.refusals.Refusal.{Refusal}
-use Rattle.fault.specs.declared.refusals.Refusal.TheVariants.{ShortBuffer, WrongPhase}
-use Rattle.layout.specs.declared.letters.Letter.{Letter}
+use Rattle.wire.specs.declared.refusals.Refusal.{Refusal}
+use Rattle.wire.specs.declared.refusals.Refusal.TheVariants.{ShortBuffer, WrongPhase}
+use Rattle.wire.specs.declared.letters.Letter.{Letter}
 use Rattle.message_log.specs.Calls.{takes}
 use Rattle.rules.specs.declared.answers.Received.{Received}
 use Rattle.rules.specs.State.{Pair, Outcome}
@@ -11,7 +11,9 @@ use Rattle.rules.specs.Frames.{lack, given, left}
 use Rattle.rules.specs.Hub.{listens, hub_sends}
 use Rattle.rules.specs.Seat.{is_apart, seat_sends}
 use Rattle.rules.specs.Calls.{Done, publishes, publish, finish, busy, last_session, roll, tell, say, leave}
-use Rattle.rules.specs.Rounds.{Call, Answer, Did, Step, did, refusal, HubReceive, SeatReceive, HubSend, SeatSend, lent_short, HubReceives, SeatReceives, hub_deaf, hub_hears_bytes, seat_deaf, seat_hears_bytes, short_buffer, hub_receives, seat_receives, hub_sends_one, seat_sends_one}
+use Rattle.rules.specs.declared.answers.Answer.{Answer}
+use Rattle.rules.specs.declared.answers.Answer.TheVariants as Answer
+use Rattle.rules.specs.Rounds.{Call, Step, did, refusal, HubReceive, SeatReceive, HubSend, SeatSend, lent_short, HubReceives, SeatReceives, hub_deaf, hub_hears_bytes, seat_deaf, seat_hears_bytes, short_buffer, hub_receives, seat_receives, hub_sends_one, seat_sends_one}
 use Rattle.rules.specs.Sides.{hub_side_of, with_hub_side, with_hub_core, seat_side_of, with_seat_side, with_seat_core, on_side}
 use Rattle.rules.proofs.Blind.{along}
 use Rattle.rules.proofs.Sides.{hub_hears_side, seat_hears_side, hub_sends_core, seat_sends_core, tell_core, say_core, leave_core}
@@ -54,14 +56,14 @@ seat_calls {R} rule Holds c s t r own short long same = go (lent_short c s) refl
     go false q e = subst Holds (own s (seat_side_of s) ∙ sym (ap (on_side (with_seat_side s)) e) ∙ ap (answered r) same) (long q)
 
 -- the same of a call that is done or refused
-told_short : (c : Call) (s : Pair) → refusal c ShortBuffer ≡ Did (Err ShortBuffer) → lent_short c s ≡ true → Does c s (Err ShortBuffer) s
+told_short : (c : Call) (s : Pair) → refusal c ShortBuffer ≡ Answer.Done (Err ShortBuffer) → lent_short c s ≡ true → Does c s (Err ShortBuffer) s
 told_short c s e q = subst (λ (a : Answer). Step s c (record { answer = a; wrote = None; after = s })) e (short_buffer c q)
 
-pub hub_does : (rule : Pair → Done) (c : Call) (s t : Pair) (r : Result (Unit {0}) Refusal) → OfHub rule → refusal c ShortBuffer ≡ Did (Err ShortBuffer) → (lent_short c s ≡ false → Step s c (did (rule s))) → with_hub_side s t ≡ t →
+pub hub_does : (rule : Pair → Done) (c : Call) (s t : Pair) (r : Result (Unit {0}) Refusal) → OfHub rule → refusal c ShortBuffer ≡ Answer.Done (Err ShortBuffer) → (lent_short c s ≡ false → Step s c (did (rule s))) → with_hub_side s t ≡ t →
     answered r (hub_side_of t) ≡ cond (lent_short c s) (refuses ShortBuffer (hub_side_of s)) (rule (hub_side_of s)) → Does c s r t
 hub_does rule c s t r own e = hub_calls rule (λ (o : Done). Does c s o.answer o.after) c s t r own (told_short c s e)
 
-pub seat_does : (rule : Pair → Done) (c : Call) (s t : Pair) (r : Result (Unit {0}) Refusal) → OfSeat rule → refusal c ShortBuffer ≡ Did (Err ShortBuffer) → (lent_short c s ≡ false → Step s c (did (rule s))) → with_seat_side s t ≡ t →
+pub seat_does : (rule : Pair → Done) (c : Call) (s t : Pair) (r : Result (Unit {0}) Refusal) → OfSeat rule → refusal c ShortBuffer ≡ Answer.Done (Err ShortBuffer) → (lent_short c s ≡ false → Step s c (did (rule s))) → with_seat_side s t ≡ t →
     answered r (seat_side_of t) ≡ cond (lent_short c s) (refuses ShortBuffer (seat_side_of s)) (rule (seat_side_of s)) → Does c s r t
 seat_does rule c s t r own e = seat_calls rule (λ (o : Done). Does c s o.answer o.after) c s t r own (told_short c s e)
 

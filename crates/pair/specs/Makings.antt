@@ -1,6 +1,6 @@
 -- What a set-up makes.
 use Rattle.std.specs.Prelude.{◌≡◌, Ok, Err, Result}
-use Rattle.fault.specs.declared.making.Unmade.{Unmade}
+use Rattle.wire.specs.declared.making.Unmade.{Unmade}
 use Rattle.message_log.specs.Meaning.{Meaning}
 use Rattle.account.specs.Table.{Table}
 use Rattle.rules.specs.SetUp.{Parts, set_up}

@@ -7,10 +7,10 @@ ghost use Rattle.pair.specs.Meanings.{pair_of};
 ghost use Rattle.pair.specs.Steps.{Does};
 
 use crate::pairs::Pair;
-use fault::Refusal;
 use line::Line;
 use message_log::Log;
 use rules::How;
+use wire::Refusal;
 
 impl Pair {
     /// Connects: clears lines, frames and counts, the hub waits for a login, and the seat writes it. Refuses by

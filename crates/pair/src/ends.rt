@@ -6,11 +6,10 @@ ghost use Rattle.pair.specs.Meanings.{pair_of};
 ghost use Rattle.pair.specs.Steps.{HubTakes, SeatTakes, HubPuts, SeatPuts};
 
 use crate::pairs::Pair;
-use fault::Refusal;
-use layout::Letter;
 use line::{Line, SteadyLine};
 use message_log::Log;
 use rules::Received;
+use wire::{Letter, Refusal};
 
 impl Pair {
     /// The hub takes once from the up line, and acts on a packet that is whole then. Refuses by `ShortBuffer`,

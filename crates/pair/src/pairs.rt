@@ -6,9 +6,9 @@ ghost use Rattle.pair.specs.Meanings.{pair_of};
 
 use account::{Account, Accounts};
 use hub::Hub;
-use layout::Status;
 use rules::{HubPhase, SeatPhase};
 use seat::Seat;
+use wire::Status;
 
 /// A hub and a seat, the account table of the hub, and the account by which the seat logs in.
 #[derive(Drop)]

@@ -1,6 +1,6 @@
 //! A round: each end receives what waits for it, and sends once.
 ghost use Rattle.std.specs.Prelude.{◌≡◌, ◌≤◌, ℕ, List, length};
-ghost use Rattle.layout.specs.Limits.{packet_limit};
+ghost use Rattle.wire.specs.Limits.{packet_limit};
 ghost use Rattle.message_log.specs.Meaning.{Meaning};
 ghost use Rattle.rules.specs.Rounds.{Drains, HubReceives, SeatReceives, going};
 ghost use Rattle.pair.specs.Meanings.{pair_of};
@@ -8,18 +8,17 @@ ghost use Rattle.pair.specs.Steps.{Goes};
 ghost use Rattle.pair.specs.Goings.{meant};
 
 use crate::pairs::Pair;
-use fault::{Fault, LogFault, Refusal};
-use layout::PACKET_LIMIT;
 use line::SteadyLine;
 use message_log::Log;
 use rules::{Heard, Received, Report};
+use wire::{Fault, LogFault, PACKET_LIMIT, Refusal};
 
 // What a receive's answer means for a round.
 enum Going {
     // The receives end, with what was wrong if something was.
-    Over(Option<Fault>),
+    Stop(Option<Fault>),
     // They go on, with so many packets more acted on.
-    Onward(usize),
+    Continue(usize),
 }
 
 impl Going {
@@ -28,13 +27,13 @@ impl Going {
         ensures { meant result ≡ going answer }
     {
         match answer {
-            Ok(Received::Nothing) => Going::Over(None),
-            Ok(Received::Part) => Going::Onward(0),
-            Ok(Received::Acted(_)) => Going::Onward(1),
-            Ok(Received::Message { .. }) => Going::Onward(1),
-            Err(Refusal::BadPacket(fault)) => Going::Over(Some(Fault::Packet(fault))),
-            Err(Refusal::LogFull) => Going::Over(Some(Fault::Log(LogFault::Full))),
-            Err(_) => Going::Over(None),
+            Ok(Received::Nothing) => Going::Stop(None),
+            Ok(Received::Part) => Going::Continue(0),
+            Ok(Received::Acted(_)) => Going::Continue(1),
+            Ok(Received::Message { .. }) => Going::Continue(1),
+            Err(Refusal::BadPacket(fault)) => Going::Stop(Some(Fault::Packet(fault))),
+            Err(Refusal::LogFull) => Going::Stop(Some(Fault::Log(LogFault::Full))),
+            Err(_) => Going::Stop(None),
         }
     }
 }
@@ -89,8 +88,8 @@ impl Pair {
         let mut packets = 0;
         loop {
             match Going::of(self.hub_receive(hub_log, up, down, hub_frame, out)) {
-                Going::Over(fault) => return Heard { packets, fault },
-                Going::Onward(more) => packets += more,
+                Going::Stop(fault) => return Heard { packets, fault },
+                Going::Continue(more) => packets += more,
             }
         }
     }
@@ -112,8 +111,8 @@ impl Pair {
         let mut packets = 0;
         loop {
             match Going::of(self.seat_receive(seat_log, up, down, seat_frame, out)) {
-                Going::Over(fault) => return Heard { packets, fault },
-                Going::Onward(more) => packets += more,
+                Going::Stop(fault) => return Heard { packets, fault },
+                Going::Continue(more) => packets += more,
             }
         }
     }

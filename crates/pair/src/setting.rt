@@ -9,11 +9,10 @@ ghost use Rattle.pair.specs.Makings.{SetsUp};
 
 use crate::pairs::Pair;
 use account::{Account, Accounts};
-use fault::{Refusal, Unmade};
 use hub::Hub;
-use layout::{MESSAGE_LIMIT, PACKET_LIMIT};
 use message_log::Log;
 use seat::Seat;
+use wire::{MESSAGE_LIMIT, PACKET_LIMIT, Refusal, Unmade};
 
 // The session that a hub's log without one begins.
 const FIRST_SESSION: u8 = 1;

@@ -1,32 +1,32 @@
 -- What an end says of its frame, when what comes to it is a list of whole packets.
 use Rattle.std.proofs.Common.{◌≡◌, ℕ, ◌<◌, ◌≤◌, Bool, true, false, List, ◌∷◌, ◌++◌, length, get_or, Ok, Err, Result, sym, refl, ap, ◌∙◌}
 use Rattle.std.specs.List.{flat_map, AllByRecursion as All}
-use Rattle.fault.specs.declared.faults.PacketFault.{PacketFault}
-use Rattle.fault.specs.declared.faults.PacketFault.TheVariants.{OutOfPlace}
-use Rattle.layout.specs.declared.letters.Letter.{Letter}
-use Rattle.layout.specs.Letters.{letter_byte}
+use Rattle.wire.specs.declared.faults.PacketFault.{PacketFault}
+use Rattle.wire.specs.declared.faults.PacketFault.TheVariants.{OutOfPlace}
+use Rattle.wire.specs.declared.letters.Letter.{Letter}
+use Rattle.wire.specs.Letters.{letter_byte}
 use Rattle.packet.specs.Values.{Value, Valid, encode, letter}
-use Rattle.packet.specs.Decoding.{Answer, part, whole}
+use Rattle.packet.specs.Decoding.{Decoded, part, whole}
 use Rattle.rules.specs.Frames.{lack, among, placed, judged}
 use Rattle.promises.proofs.Frames.{Short, Arrived, not_yet, come, arrives}
 use Rattle.promises.proofs.Packets.{sesm}
 
-whole_not_part : (here : Bool) (r : Result Answer PacketFault) (v : Value) → r ≡ Ok (whole v) → placed here r ≡ Ok part → ⊥
-whole_not_part true r v e h = let q : ◌≡◌ {A = Result Answer PacketFault} (Ok (whole v)) (Ok part) = sym (ap (placed true) e) ∙ h in (cc)
-whole_not_part false r v e h = let q : ◌≡◌ {A = Result Answer PacketFault} (Err OutOfPlace) (Ok part) = sym (ap (placed false) e) ∙ h in (cc)
+whole_not_part : (here : Bool) (r : Result Decoded PacketFault) (v : Value) → r ≡ Ok (whole v) → placed here r ≡ Ok part → ⊥
+whole_not_part true r v e h = let q : ◌≡◌ {A = Result Decoded PacketFault} (Ok (whole v)) (Ok part) = sym (ap (placed true) e) ∙ h in (cc)
+whole_not_part false r v e h = let q : ◌≡◌ {A = Result Decoded PacketFault} (Err OutOfPlace) (Ok part) = sym (ap (placed false) e) ∙ h in (cc)
 
-same_whole : (here : Bool) (r : Result Answer PacketFault) (v u : Value) → r ≡ Ok (whole v) → placed here r ≡ Ok (whole u) → v ≡ u
-same_whole true r v u e h = let q : ◌≡◌ {A = Result Answer PacketFault} (Ok (whole v)) (Ok (whole u)) = sym (ap (placed true) e) ∙ h in cc
-same_whole false r v u e h = let q : ◌≡◌ {A = Result Answer PacketFault} (Err OutOfPlace) (Ok (whole u)) = sym (ap (placed false) e) ∙ h in (cc)
+same_whole : (here : Bool) (r : Result Decoded PacketFault) (v u : Value) → r ≡ Ok (whole v) → placed here r ≡ Ok (whole u) → v ≡ u
+same_whole true r v u e h = let q : ◌≡◌ {A = Result Decoded PacketFault} (Ok (whole v)) (Ok (whole u)) = sym (ap (placed true) e) ∙ h in cc
+same_whole false r v u e h = let q : ◌≡◌ {A = Result Decoded PacketFault} (Err OutOfPlace) (Ok (whole u)) = sym (ap (placed false) e) ∙ h in (cc)
 
-part_not_whole : (here : Bool) (r : Result Answer PacketFault) (u : Value) → r ≡ Ok part → placed here r ≡ Ok (whole u) → ⊥
-part_not_whole here r u e h = let q : ◌≡◌ {A = Result Answer PacketFault} (Ok part) (Ok (whole u)) = sym (ap (placed here) e) ∙ h in (cc)
+part_not_whole : (here : Bool) (r : Result Decoded PacketFault) (u : Value) → r ≡ Ok part → placed here r ≡ Ok (whole u) → ⊥
+part_not_whole here r u e h = let q : ◌≡◌ {A = Result Decoded PacketFault} (Ok part) (Ok (whole u)) = sym (ap (placed here) e) ∙ h in (cc)
 
-part_no_fault : (here : Bool) (r : Result Answer PacketFault) (fault : PacketFault) → r ≡ Ok part → placed here r ≡ Err fault → ⊥
-part_no_fault here r fault e h = let q : ◌≡◌ {A = Result Answer PacketFault} (Ok part) (Err fault) = sym (ap (placed here) e) ∙ h in (cc)
+part_no_fault : (here : Bool) (r : Result Decoded PacketFault) (fault : PacketFault) → r ≡ Ok part → placed here r ≡ Err fault → ⊥
+part_no_fault here r fault e h = let q : ◌≡◌ {A = Result Decoded PacketFault} (Ok part) (Err fault) = sym (ap (placed here) e) ∙ h in (cc)
 
-whole_no_fault : (here : Bool) (r : Result Answer PacketFault) (v : Value) (fault : PacketFault) → here ≡ true → r ≡ Ok (whole v) → placed here r ≡ Err fault → ⊥
-whole_no_fault here r v fault t e h = let q : ◌≡◌ {A = Result Answer PacketFault} (Ok (whole v)) (Err fault) = sym (ap (λ b. placed b (Ok (whole v))) t) ∙ sym (ap (placed here) e) ∙ h in (cc)
+whole_no_fault : (here : Bool) (r : Result Decoded PacketFault) (v : Value) (fault : PacketFault) → here ≡ true → r ≡ Ok (whole v) → placed here r ≡ Err fault → ⊥
+whole_no_fault here r v fault t e h = let q : ◌≡◌ {A = Result Decoded PacketFault} (Ok (whole v)) (Err fault) = sym (ap (λ b. placed b (Ok (whole v))) t) ∙ sym (ap (placed here) e) ∙ h in (cc)
 
 letter_of_lem : (v : Value) → get_or (encode v) 2 0 ≡ letter_byte (letter v)
 unfolding encode

@@ -4,8 +4,8 @@ use Rattle.std.specs.Str.{bytes_eq}
 use Rattle.std.proofs.lemmas.List.{nil_from_length}
 use Rattle.std.proofs.lemmas.Bool.{cond_both, eqb-true, eqb-false, and_parts}
 use Rattle.std.proofs.lemmas.Slice.Eq.{bytes_eq-Decides}
-use Rattle.fault.specs.declared.refusals.Refusal.{Refusal}
-use Rattle.fault.specs.declared.refusals.Refusal.TheVariants.{ShortBuffer, SizeOutOfRange, BadAccountField}
+use Rattle.wire.specs.declared.refusals.Refusal.{Refusal}
+use Rattle.wire.specs.declared.refusals.Refusal.TheVariants.{ShortBuffer, SizeOutOfRange, BadAccountField}
 use Rattle.message_log.specs.Meaning.{Meaning, begun}
 use Rattle.message_log.specs.Meaning as Log
 use Rattle.account.specs.Fields.{good, good_fields, padded_fields, account_of}
@@ -15,7 +15,7 @@ use Rattle.rules.specs.Rounds.{too_short}
 use Rattle.rules.specs.SetUp.{first_session, started, first_of, follows, made}
 use Rattle.rules.specs.Sides.{no_hub, no_seat}
 use Rattle.promises.specs.Book.{Message}
-use Rattle.promises.specs.Runs.{Begins, SetUp}
+use Rattle.promises.specs.Runs.{IsPrefix, SetUp}
 use Rattle.promises.specs.Promises.{SetUpBegins}
 
 -- what is granted behind two tests
@@ -24,7 +24,7 @@ past true c x y r s e = (cc)
 past false true x y r s e = (refl, e)
 past false false x y r s e = (cc)
 
-first_begins : (xs ys : List Message) → first_of xs ys ≡ true → Begins xs ys
+first_begins : (xs ys : List Message) → first_of xs ys ≡ true → IsPrefix xs ys
 first_begins [] ys e = (ys, refl)
 first_begins (x ∷ xs) [] e = (cc)
 first_begins (x ∷ xs) (y ∷ ys) e =
@@ -33,10 +33,10 @@ first_begins (x ∷ xs) (y ∷ ys) e =
     let r = first_begins xs ys p.1 in
     (r.0, ap (λ z. z ∷ ys) (sym q) ∙ ap (λ z. x ∷ z) r.1)
 
-follows_begins : (seat hub : Meaning) → follows seat hub ≡ true → ((seat.session ≡ 0) × (seat.messages ≡ [])) ⊎ ((seat.session ≡ hub.session) × Begins seat.messages hub.messages)
+follows_begins : (seat hub : Meaning) → follows seat hub ≡ true → ((seat.session ≡ 0) × (seat.messages ≡ [])) ⊎ ((seat.session ≡ hub.session) × IsPrefix seat.messages hub.messages)
 follows_begins seat hub =
     cond_both (eqb seat.session 0) (eqb (length seat.messages) 0) (eqb seat.session hub.session && first_of seat.messages hub.messages)
-    (λ b. b ≡ true → ((seat.session ≡ 0) × (seat.messages ≡ [])) ⊎ ((seat.session ≡ hub.session) × Begins seat.messages hub.messages))
+    (λ b. b ≡ true → ((seat.session ≡ 0) × (seat.messages ≡ [])) ⊎ ((seat.session ≡ hub.session) × IsPrefix seat.messages hub.messages))
     (λ t e. inl (eqb-true _ _ t, nil_from_length seat.messages (eqb-true _ _ e)))
     (λ t e. let p = and_parts _ _ e in inr (eqb-true _ _ p.0, first_begins seat.messages hub.messages p.1))
 

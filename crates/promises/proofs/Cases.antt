@@ -3,21 +3,21 @@ use Rattle.std.proofs.Common.{◌≡◌, ℕ, ◌+◌, ◌<◌, ◌≤◌, min, 
 use Rattle.std.specs.List.{AllByRecursion as All}
 use Rattle.std.proofs.lemmas.Bool.{cond_both, cases_Bool, eqb-true, ltb-true, ltb-false, leb-true, leb-false, or_cases, and_parts}
 use Rattle.std.proofs.lemmas.List.{take-append-drop}
-use Rattle.fault.specs.declared.faults.Field.TheVariants as Field
-use Rattle.fault.specs.declared.faults.PacketFault.{PacketFault}
-use Rattle.fault.specs.declared.faults.PacketFault.TheVariants.{OutOfPlace, WrongContent}
-use Rattle.fault.specs.declared.refusals.Refusal.{Refusal}
-use Rattle.fault.specs.declared.refusals.Refusal.TheVariants.{MessageTooLong, LineFull, WrongPhase, SessionFinished, HubBusy, LastSession, NoSession, NothingToFetch}
-use Rattle.layout.specs.Limits.{message_limit}
-use Rattle.layout.specs.declared.letters.Letter.{Letter}
-use Rattle.layout.specs.declared.letters.Letter.TheVariants as L
-use Rattle.layout.specs.declared.statuses.Status.{Status}
-use Rattle.layout.specs.declared.statuses.Status.TheVariants.{Accepted, UnknownUser, SessionUnavailable, InvalidNumber, WrongVersion, WrongProtocol, AlreadyLoggedIn}
-use Rattle.layout.specs.declared.goodbyes.GoodByeReason.TheVariants as G
-use Rattle.layout.specs.declared.logouts.LogoutReason.{LogoutReason}
-use Rattle.layout.specs.declared.logouts.LogoutReason.TheVariants as X
+use Rattle.wire.specs.declared.faults.Field.TheVariants as Field
+use Rattle.wire.specs.declared.faults.PacketFault.{PacketFault}
+use Rattle.wire.specs.declared.faults.PacketFault.TheVariants.{OutOfPlace, WrongContent}
+use Rattle.wire.specs.declared.refusals.Refusal.{Refusal}
+use Rattle.wire.specs.declared.refusals.Refusal.TheVariants.{MessageTooLong, LineFull, WrongPhase, SessionFinished, HubBusy, LastSession, NoSession, NothingToFetch}
+use Rattle.wire.specs.Limits.{message_limit}
+use Rattle.wire.specs.declared.letters.Letter.{Letter}
+use Rattle.wire.specs.declared.letters.Letter.TheVariants as L
+use Rattle.wire.specs.declared.statuses.Status.{Status}
+use Rattle.wire.specs.declared.statuses.Status.TheVariants.{Accepted, UnknownUser, SessionUnavailable, InvalidNumber, WrongVersion, WrongProtocol, AlreadyLoggedIn}
+use Rattle.wire.specs.declared.goodbyes.GoodByeReason.TheVariants as G
+use Rattle.wire.specs.declared.logouts.LogoutReason.{LogoutReason}
+use Rattle.wire.specs.declared.logouts.LogoutReason.TheVariants as X
 use Rattle.packet.specs.Values.{Value, login_request, login_response, sequenced, unsequenced, synchronization_complete, retransmission_request, logout_request, good_bye, end_of_session, hub_heartbeat, seat_heartbeat, test, letter, encode}
-use Rattle.packet.specs.Decoding.{Answer, part, whole}
+use Rattle.packet.specs.Decoding.{Decoded, part, whole}
 use Rattle.line.specs.Lines.{LineView, handed, fits}
 use Rattle.message_log.specs.Meaning.{count, nth, begun, added}
 use Rattle.message_log.specs.Calls.{has, takes}
@@ -238,7 +238,7 @@ hub_heard_lem s _ (hub_hears_bytes room l f) = go (given s.up (lack s.hub.frame)
     up : LineView
     up = left s.up (lack s.hub.frame) room
 
-    judges : (b : ℕ) (bs : List ℕ) → Took s.up (lack s.hub.frame) (b ∷ bs) (left s.up (lack s.hub.frame) room) → (r : Result Answer PacketFault) → judged (hub_letters s.hub.phase) (s.hub.frame ++ (b ∷ bs)) ≡ r → HubHeard s (hub_judges r (b ∷ bs) (s.hub.frame ++ (b ∷ bs)) (left s.up (lack s.hub.frame) room) s)
+    judges : (b : ℕ) (bs : List ℕ) → Took s.up (lack s.hub.frame) (b ∷ bs) (left s.up (lack s.hub.frame) room) → (r : Result Decoded PacketFault) → judged (hub_letters s.hub.phase) (s.hub.frame ++ (b ∷ bs)) ≡ r → HubHeard s (hub_judges r (b ∷ bs) (s.hub.frame ++ (b ∷ bs)) (left s.up (lack s.hub.frame) room) s)
     judges b bs t (Ok part) e = hub_part b bs _ l t e
     judges b bs t (Ok (whole v)) e = hub_whole b bs _ v l t e
     judges b bs t (Err fault) e = hub_fault b bs _ fault l t e
@@ -350,7 +350,7 @@ pub seat_heard_lem : (s : Pair) (o : Outcome Received) → SeatReceives s o → 
 seat_heard_lem s _ (seat_deaf l) = seat_refused l
 seat_heard_lem s _ (seat_hears_bytes room l f) = go (given s.down (lack s.seat.frame)) (took s.down (lack s.seat.frame) room f)
   where
-    judges : (b : ℕ) (bs : List ℕ) → Took s.down (lack s.seat.frame) (b ∷ bs) (left s.down (lack s.seat.frame) room) → (r : Result Answer PacketFault) → judged (seat_letters s.seat.phase s.seat.fetch) (s.seat.frame ++ (b ∷ bs)) ≡ r → SeatHeard s (seat_judges r (b ∷ bs) (s.seat.frame ++ (b ∷ bs)) (left s.down (lack s.seat.frame) room) s)
+    judges : (b : ℕ) (bs : List ℕ) → Took s.down (lack s.seat.frame) (b ∷ bs) (left s.down (lack s.seat.frame) room) → (r : Result Decoded PacketFault) → judged (seat_letters s.seat.phase s.seat.fetch) (s.seat.frame ++ (b ∷ bs)) ≡ r → SeatHeard s (seat_judges r (b ∷ bs) (s.seat.frame ++ (b ∷ bs)) (left s.down (lack s.seat.frame) room) s)
     judges b bs t (Ok part) e = seat_part b bs _ l t e
     judges b bs t (Ok (whole v)) e = seat_whole b bs _ v l t e
     judges b bs t (Err fault) e = seat_fault b bs _ fault l t e

@@ -4,12 +4,12 @@ use Rattle.std.specs.List.{slice_get, flat_map}
 use Rattle.std.proofs.lemmas.List.{append-nil, length_push}
 use Rattle.std.proofs.lemmas.List.Sums.{sum_by_push, sum_by-drop_more}
 use Rattle.std.proofs.lemmas.Bool.{cond_both, eqb-true, eq-eqb, ne_eqb, cond-true, cond-false, cases_lt, lt-ltb, le-ltb, not_from_false, and_from, le-leb}
-use Rattle.fault.specs.declared.faults.Fault.{Fault}
-use Rattle.fault.specs.declared.refusals.Refusal.TheVariants.{WrongPhase}
-use Rattle.layout.specs.Limits.{message_limit, packet_limit}
-use Rattle.layout.specs.declared.letters.Letter.TheVariants as L
-use Rattle.layout.specs.Letters.{letter_byte}
-use Rattle.layout.specs.declared.statuses.Status.TheVariants.{Accepted}
+use Rattle.wire.specs.declared.faults.Fault.{Fault}
+use Rattle.wire.specs.declared.refusals.Refusal.TheVariants.{WrongPhase}
+use Rattle.wire.specs.Limits.{message_limit, packet_limit}
+use Rattle.wire.specs.declared.letters.Letter.TheVariants as L
+use Rattle.wire.specs.Letters.{letter_byte}
+use Rattle.wire.specs.declared.statuses.Status.TheVariants.{Accepted}
 use Rattle.packet.specs.Values.{Value, Valid, login_request, login_response, sequenced, encode, letter}
 use Rattle.line.specs.Lines.{LineView, handed, fits}
 use Rattle.rules.specs.State as Line
@@ -32,9 +32,10 @@ use Rattle.rules.specs.Frames.{lack, among}
 use Rattle.rules.specs.Hub.{listens, hub_letters, admitted, decided, logs_in, hub_acts, first_number, owes, Due, due, hub_due, Sending, hub_posts, is_shut, hub_sends, beat_after}
 use Rattle.rules.specs.Seat.{is_apart, seat_letters, suits, in_session, next_number, seat_message, seat_keeps, seat_acts, live_due, seat_due, seat_posts, seat_sends}
 use Rattle.rules.specs.Calls.{connected, asked}
-use Rattle.rules.specs.Rounds.{HubReceives, SeatReceives, going, over, onward, Drains, ends, more, Rounds, Round, Went, Deed, Step, short_buffer, rounds}
+use Rattle.rules.specs.declared.answers.Answer.TheVariants as Answer
+use Rattle.rules.specs.Rounds.{HubReceives, SeatReceives, going, stop, continue, Drains, ends, more, Rounds, Round, Effect, Step, short_buffer, rounds}
 use Rattle.promises.specs.Book.{Message, Book}
-use Rattle.promises.specs.Runs.{Begins, Note, GrantedRounds, no_round, round}
+use Rattle.promises.specs.Runs.{IsPrefix, Note, GrantedRounds, no_round, round}
 use Rattle.promises.specs.Promises.{Able, rounds_needed, Level}
 use Rattle.promises.proofs.Fronts.{begins_length, begins_all, begins_next}
 use Rattle.promises.proofs.Frames.{Short, part_lacks}
@@ -97,7 +98,7 @@ alone v u qs e = (cc, cc)
 
 -- what a receive does while the packet v is on its way
 pub data Out (v : Value) (F : ℕ) (s : Pair) : Outcome Received → Type 0 where
-  still : (o : Outcome Received) → going o.answer ≡ onward 0 → On v F o.after → core o.after ≡ core s → Out v F s o
+  still : (o : Outcome Received) → going o.answer ≡ continue 0 → On v F o.after → core o.after ≡ core s → Out v F s o
   acts : (b : ℕ) (bs : List ℕ) (d : LineView) → Off F (seat_took (b ∷ bs) [] d s) → Out v F s (seat_acts s.seat.phase v (seat_took (b ∷ bs) [] d s))
 
 module _ (v : Value) (F : ℕ) (va : Valid v) where
@@ -118,7 +119,7 @@ module _ (v : Value) (F : ℕ) (va : Valid v) where
 
 -- nothing waits, so nothing comes
 pub record Dry (F : ℕ) (s : Pair) (o : Outcome Received) : Type 0 where
-  pub ends : going o.answer ≡ over None
+  pub ends : going o.answer ≡ stop None
   pub off : Off F o.after
   pub same : core o.after ≡ core s
 
@@ -137,7 +138,7 @@ dry_drains F (more s o k n x t r g e) na of = (cc (g, (dry_receive F s o na of (
 
 -- the seat acts on the packet as a catch-up wants
 pub record Acts (e : Core) (u : Pair) (o : Outcome Received) : Type 0 where
-  pub goes : going o.answer ≡ onward 1
+  pub goes : going o.answer ≡ continue 1
   pub is : core o.after ≡ e
   pub down : o.after.down ≡ u.down
   pub frame : o.after.seat.frame ≡ u.seat.frame
@@ -151,7 +152,7 @@ module _ (v : Value) (F : ℕ) (va : Valid v) (c e : Core) (na : is_apart c.seat
   drains_on : {s : Pair} {n : ℕ} {x : Option Fault} {t : Pair} → Drains SeatReceives s n x t → core s ≡ c → On v F s → Off F t × (core t ≡ e)
   drains_on (ends s o x r g) cs on = go o g (one s o cs on r)
     where
-      go : (o : Outcome Received) → going o.answer ≡ over x → Out v F s o → Off F o.after × (core o.after ≡ e)
+      go : (o : Outcome Received) → going o.answer ≡ stop x → Out v F s o → Off F o.after × (core o.after ≡ e)
       go _ g (still o p q z) = (cc (g, p))
       go _ g (acts b bs d of) = (cc (g, (act (seat_took (b ∷ bs) [] d s) cs).goes))
   drains_on (more s o k n x t r g d) cs on = go o d (λ z q. drains_on d z q) (one s o cs on r)
@@ -202,7 +203,7 @@ pub record HubDry (s : Pair) (t : Pair) : Type 0 where
   pub down : t.down ≡ s.down
   pub seat : t.seat ≡ s.seat
 
-hub_dry_receive : (s : Pair) (o : Outcome Received) → listens s.hub.phase ≡ true → s.up.waiting ≡ [] → HubHeard s o → (going o.answer ≡ over None) × HubDry s o.after
+hub_dry_receive : (s : Pair) (o : Outcome Received) → listens s.hub.phase ≡ true → s.up.waiting ≡ [] → HubHeard s o → (going o.answer ≡ stop None) × HubDry s o.after
 hub_dry_receive s _ li dr (hub_refused l) = (cc (li, l))
 hub_dry_receive s _ li dr (hub_none u l tk) = (refl, record { same = ap (up_core (core s)) (sym tk.front); down = refl; seat = refl })
 hub_dry_receive s _ li dr (hub_part x xs u l tk j) = (cc (tk.front, dr))
@@ -276,7 +277,7 @@ pub record Ready (F aq nu : ℕ) (k : Meaning) (n : ℕ) (t : Pair) : Type 0 whe
   pub is : core t ≡ core_of (Serving q n d) Live aq nu k l
   pub off : Off F t
   pub session : l.session ≡ k.session
-  pub front : Begins l.messages k.messages
+  pub front : IsPrefix l.messages k.messages
   pub near : n ≤ count l + 1
   pub some : 0 < n
   pub room : taken l.overhead (drop (count l) k.messages) ≤ room l
@@ -311,7 +312,7 @@ module _ (F aq nu : ℕ) (k : Meaning) (wide : packet_limit ≤ F) (begun : 0 < 
       let nx : n ≡ next_number rd.l = omega (arith, rd.near) in
       let at : n - 1 ≡ i = omega arith in
       let r1 : slice_get k.messages i ≡ Some m = subst (λ z. slice_get k.messages z ≡ Some m) at rm in
-      let pr : Begins (rd.l.messages ++ (m ∷ [])) k.messages = subst (λ z. Begins (rd.l.messages ++ (m ∷ [])) z) (sym rd.front.1) (begins_next rd.l.messages rd.front.0 m (subst (λ z. slice_get z i ≡ Some m) rd.front.1 r1)) in
+      let pr : IsPrefix (rd.l.messages ++ (m ∷ [])) k.messages = subst (λ z. IsPrefix (rd.l.messages ++ (m ∷ [])) z) (sym rd.front.1) (begins_next rd.l.messages rd.front.0 m (subst (λ z. slice_get z i ≡ Some m) rd.front.1 r1)) in
       let tk : taken rd.l.overhead (drop i k.messages) ≡ (length m + rd.l.overhead) + taken rd.l.overhead (drop (i + 1) k.messages) =
       sum_by-drop_more (λ (x : Message). length x + rd.l.overhead) k.messages i [] (omega arith)
       ∙ ap (λ z. (length (get_or k.messages z []) + rd.l.overhead) + taken rd.l.overhead (drop (i + 1) k.messages)) (sym at) in
@@ -324,12 +325,12 @@ module _ (F aq nu : ℕ) (k : Meaning) (wide : packet_limit ≤ F) (begun : 0 < 
       (cases_lt n (next_number rd.l))
 
 -- a granted round, as what it does
-pub record WentRound (s : Pair) (d : Deed) : Type 0 where
+pub record WentRound (s : Pair) (d : Effect) : Type 0 where
   pub report : Report
   pub wrote : Option Value
   pub does : Rounds s report wrote d.after
 
-granted_round : (s : Pair) (d : Deed) (p : Report) → Step s Round d → d.answer ≡ Went (Ok p) → WentRound s d
+granted_round : (s : Pair) (d : Effect) (p : Report) → Step s Round d → d.answer ≡ Answer.Round (Ok p) → WentRound s d
 granted_round s _ p (short_buffer _ e) g = (cc)
 granted_round s _ p (rounds q w t e r) g = record { report = q; wrote = w; does = r }
 
@@ -381,7 +382,7 @@ module _ (o : Pair) (u c p : List ℕ) (aq nu : ℕ) (va : Valid (login_request 
       subst (λ x. HubOff nu o (decided x its_asked s)) (sym e) (admitted_off (found s.rows u c) s f d r h t l)
 
   -- a receive while the login is on its way
-  hub_login : (s : Pair) (r : Outcome Received) → HubOn its o s → HubHeard s r → ((going r.answer ≡ onward 0) × HubOn its o r.after) ⊎ ((going r.answer ≡ onward 1) × HubOff nu o r.after)
+  hub_login : (s : Pair) (r : Outcome Received) → HubOn its o s → HubHeard s r → ((going r.answer ≡ continue 0) × HubOn its o r.after) ⊎ ((going r.answer ≡ continue 1) × HubOff nu o r.after)
   hub_login s _ on (hub_refused l) = (cc (ap listens on.phase, l))
   hub_login s _ on (hub_none d l tk) = absurd (no_silence its s.hub.frame s.up d va on.stream on.short on.limit tk)
   hub_login s _ on (hub_part x xs d l tk ju) =
@@ -408,7 +409,7 @@ module _ (o : Pair) (u c p : List ℕ) (aq nu : ℕ) (va : Valid (login_request 
       go _ (hub_whole y ys d v l tk ju) = (cc (li, l))
   deaf_drains (more s r k n x t h g e) li = go r g (hub_heard_lem s r h)
     where
-      go : (r : Outcome Received) → going r.answer ≡ onward k → HubHeard s r → t ≡ s
+      go : (r : Outcome Received) → going r.answer ≡ continue k → HubHeard s r → t ≡ s
       go _ g (hub_refused l) = (cc)
       go _ g (hub_none d l tk) = (cc (li, l))
       go _ g (hub_part y ys d l tk ju) = (cc (li, l))
@@ -488,8 +489,8 @@ catches_up b n s t how i tr ul dl ab rs =
     let ss : (aq ≡ 0) ⊎ (aq ≡ x) = (passed c.rows x h (asked how s) ab.accepted).session in
     let near : nu ≤ count l + 1 = asked_fits (view c) ask ss in
     let some : 0 < nu = asked_some (view c) ask in
-    let front : Begins l.messages k.messages = cond_both (eqb s.held.session x) s.held (begun s.held x) (λ (z : Meaning). Begins z.messages k.messages)
-    (λ q. subst (λ z. Begins s.held.messages z) (ap b.lists (eqb-true s.held.session x q) ∙ i.kept) i.held) (λ q. (k.messages, refl)) in
+    let front : IsPrefix l.messages k.messages = cond_both (eqb s.held.session x) s.held (begun s.held x) (λ (z : Meaning). IsPrefix z.messages k.messages)
+    (λ q. subst (λ z. IsPrefix s.held.messages z) (ap b.lists (eqb-true s.held.session x q) ∙ i.kept) i.held) (λ q. (k.messages, refl)) in
     let lf = begins_length l.messages k.messages front in
     let on : HubOn (its_login (view c)) c c = record { phase = refl; stream = sym (append-nil (encode (its_login (view c)))); short = sesm.some (its_login (view c)); limit = ul.sound.some; rows = refl; running = refl; held = refl; seat = refl; down = refl } in
     let of : Off F c = record { frame = refl; dry = refl; room = refl; full = refl; limit = dl.sound.some } in

@@ -3,34 +3,34 @@ use Rattle.std.proofs.Common.{◌≡◌, ℕ, zero, suc, ◌≤◌, List, [], �
 use Rattle.std.specs.List.{slice_get}
 use Rattle.std.proofs.lemmas.List.{append-nil, append_assoc, nil_from_length}
 use Rattle.promises.specs.Book.{Message}
-use Rattle.promises.specs.Runs.{Begins}
+use Rattle.promises.specs.Runs.{IsPrefix}
 
-pub begins_refl : (xs : List Message) → Begins xs xs
+pub begins_refl : (xs : List Message) → IsPrefix xs xs
 begins_refl xs = ([], sym (append-nil xs))
 
-pub begins_push : (xs : List Message) (x : Message) → Begins xs (xs ++ (x ∷ []))
+pub begins_push : (xs : List Message) (x : Message) → IsPrefix xs (xs ++ (x ∷ []))
 begins_push xs x = (x ∷ [], refl)
 
-pub begins_trans : (xs ys zs : List Message) → Begins xs ys → Begins ys zs → Begins xs zs
+pub begins_trans : (xs ys zs : List Message) → IsPrefix xs ys → IsPrefix ys zs → IsPrefix xs zs
 begins_trans xs ys zs (a, p) (b, q) = (a ++ b, q ∙ ap (λ l. l ++ b) p ∙ append_assoc xs a b)
 
-pub begins_length : (xs ys : List Message) → Begins xs ys → length xs ≤ length ys
+pub begins_length : (xs ys : List Message) → IsPrefix xs ys → length xs ≤ length ys
 begins_length xs ys (r, e) = omega (arith, ap length e, length-append xs r)
 
 -- a beginning that is as long is the whole
-pub begins_all : (xs ys : List Message) → Begins xs ys → length ys ≤ length xs → xs ≡ ys
+pub begins_all : (xs ys : List Message) → IsPrefix xs ys → length ys ≤ length xs → xs ≡ ys
 begins_all xs ys (r, e) l =
     let n : length r ≡ 0 = omega (arith, ap length e, length-append xs r) in
     sym (e ∙ ap (λ z. xs ++ z) (nil_from_length r n) ∙ append-nil xs)
 
 -- what stands right behind a beginning
-pub begins_next : (xs rest : List Message) (v : Message) → slice_get (xs ++ rest) (length xs) ≡ Some v → Begins (xs ++ (v ∷ [])) (xs ++ rest)
+pub begins_next : (xs rest : List Message) (v : Message) → slice_get (xs ++ rest) (length xs) ≡ Some v → IsPrefix (xs ++ (v ∷ [])) (xs ++ rest)
 begins_next [] [] v e = (cc)
 begins_next [] (y ∷ ys) v e = (ys, cc)
 begins_next (x ∷ xs) rest v e = let ih = begins_next xs rest v e in (ih.0, ap (λ l. x ∷ l) ih.1)
 
 -- of two beginnings of one list the shorter begins the longer
-pub begins_shorter : (xs ys zs : List Message) → Begins xs zs → Begins ys zs → length xs ≤ length ys → Begins xs ys
+pub begins_shorter : (xs ys zs : List Message) → IsPrefix xs zs → IsPrefix ys zs → length xs ≤ length ys → IsPrefix xs ys
 begins_shorter [] ys zs p q l = (ys, refl)
 begins_shorter (x ∷ xs) [] zs p q l = absurd (omega arith)
 begins_shorter (x ∷ xs) (y ∷ ys) zs p q l =

@@ -3,15 +3,15 @@ use Rattle.std.proofs.Common.{◌≡◌, ℕ, ◌+◌, ◌-◌, ◌<◌, ◌≤�
 use Rattle.std.specs.List.{slice_get, flat_map, AllByRecursion as All}
 use Rattle.std.proofs.lemmas.Option.{slice_get-get_or}
 use Rattle.std.proofs.lemmas.Bool.{cond_both, eqb-true, eqb-false, eq-eqb, ne_eqb, cond-true, cond-false, cases_Bool, cases_eq, cases_lt, and_parts, leb-true}
-use Rattle.fault.specs.declared.faults.Fault.{Fault}
-use Rattle.fault.specs.declared.refusals.Refusal.{Refusal}
-use Rattle.fault.specs.declared.refusals.Refusal.TheVariants.{ShortBuffer}
-use Rattle.layout.specs.declared.letters.Letter.{Letter}
-use Rattle.layout.specs.declared.statuses.Status.{Status}
-use Rattle.layout.specs.declared.statuses.Status.TheVariants.{Accepted, UnknownUser, SessionUnavailable, InvalidNumber, WrongVersion, WrongProtocol, AlreadyLoggedIn}
-use Rattle.layout.specs.declared.goodbyes.GoodByeReason.{GoodByeReason}
-use Rattle.layout.specs.declared.goodbyes.GoodByeReason.TheVariants as G
-use Rattle.layout.specs.declared.logouts.LogoutReason.TheVariants as X
+use Rattle.wire.specs.declared.faults.Fault.{Fault}
+use Rattle.wire.specs.declared.refusals.Refusal.{Refusal}
+use Rattle.wire.specs.declared.refusals.Refusal.TheVariants.{ShortBuffer}
+use Rattle.wire.specs.declared.letters.Letter.{Letter}
+use Rattle.wire.specs.declared.statuses.Status.{Status}
+use Rattle.wire.specs.declared.statuses.Status.TheVariants.{Accepted, UnknownUser, SessionUnavailable, InvalidNumber, WrongVersion, WrongProtocol, AlreadyLoggedIn}
+use Rattle.wire.specs.declared.goodbyes.GoodByeReason.{GoodByeReason}
+use Rattle.wire.specs.declared.goodbyes.GoodByeReason.TheVariants as G
+use Rattle.wire.specs.declared.logouts.LogoutReason.TheVariants as X
 use Rattle.packet.specs.Values.{Value, Valid, login_response, sequenced, unsequenced, synchronization_complete, good_bye, end_of_session, hub_heartbeat, encode}
 use Rattle.packet.specs.Decoding.{part, whole}
 use Rattle.line.specs.Lines.{LineView, fits}
@@ -30,9 +30,11 @@ use Rattle.rules.specs.Frames.{lack, judged}
 use Rattle.rules.specs.Hub.{hub_gone, first_number, owes, Sending, hub_sends}
 use Rattle.rules.specs.Seat.{next_number, is_apart, seat_letters, seat_sends}
 use Rattle.rules.specs.Calls.{Done, counted, hub_timed, tick, is_serving}
-use Rattle.rules.specs.Rounds.{HubReceives, SeatReceives, Drains, ends, more, Rounds, Call, Connect, Cut, Publish, Finish, Roll, Tell, Say, Leave, HubReceive, SeatReceive, HubSend, SeatSend, Tick, Round, Answer, Did, Deed, Step, short_buffer, connects, cuts, publishes, finishes, rolls, tells, says, leaves, hub_receives, seat_receives, hub_sends_one, seat_sends_one, ticks, rounds, refusal}
+use Rattle.rules.specs.declared.answers.Answer.{Answer}
+use Rattle.rules.specs.declared.answers.Answer.TheVariants as Answer
+use Rattle.rules.specs.Rounds.{HubReceives, SeatReceives, Drains, ends, more, Rounds, Call, Connect, Cut, Publish, Finish, Roll, Tell, Say, Leave, HubReceive, SeatReceive, HubSend, SeatSend, Tick, Round, Effect, Step, short_buffer, connects, cuts, publishes, finishes, rolls, tells, says, leaves, hub_receives, seat_receives, hub_sends_one, seat_sends_one, ticks, rounds, refusal}
 use Rattle.promises.specs.Book.{Message, Book, opened, added, turned, noted}
-use Rattle.promises.specs.Runs.{Begins, World, Run, begins, goes_on, SetUp, History}
+use Rattle.promises.specs.Runs.{IsPrefix, World, Run, begins, goes_on, SetUp, History}
 use Rattle.promises.specs.Promises.{NeverWrong, NeverShorter}
 use Rattle.promises.proofs.Fronts.{begins_push, begins_next}
 use Rattle.promises.proofs.Frames.{short_nil}
@@ -182,11 +184,11 @@ module _ (b : Book) (h : HubPhase) (p : SeatPhase) (f : List ℕ) (k l : Meaning
 le_cases : (a b : ℕ) → a ≤ b → (a ≡ b) ⊎ (a < b)
 le_cases a b l = ⊎_elim (λ e. inl e) (λ n. inr (⊎_elim (λ o. o) (λ o. absurd (n (omega arith))) (cases_lt a b))) (cases_eq a b)
 
-next_begins : (b : Book) (l : Meaning) (x n : ℕ) (m : Message) → l.session ≡ x → n ≡ next_number l → slice_get (b.lists x) (n - 1) ≡ Some m → Begins l.messages (b.lists l.session) → Begins (l.messages ++ (m ∷ [])) (b.lists l.session)
+next_begins : (b : Book) (l : Meaning) (x n : ℕ) (m : Message) → l.session ≡ x → n ≡ next_number l → slice_get (b.lists x) (n - 1) ≡ Some m → IsPrefix l.messages (b.lists l.session) → IsPrefix (l.messages ++ (m ∷ [])) (b.lists l.session)
 next_begins b l x n m e nu rd pre =
     let at : n - 1 ≡ length l.messages = omega arith in
     let r0 : slice_get (b.lists l.session) (length l.messages) ≡ Some m = subst (λ j. slice_get (b.lists l.session) j ≡ Some m) at (subst (λ j. slice_get (b.lists j) (n - 1) ≡ Some m) (sym e) rd) in
-    subst (λ z. Begins (l.messages ++ (m ∷ [])) z) (sym pre.1) (begins_next l.messages pre.0 m (subst (λ z. slice_get z (length l.messages) ≡ Some m) pre.1 r0))
+    subst (λ z. IsPrefix (l.messages ++ (m ∷ [])) z) (sym pre.1) (begins_next l.messages pre.0 m (subst (λ z. slice_get z (length l.messages) ≡ Some m) pre.1 r0))
 
 -- a seat that has left hears nothing more, whatever is on the line
 gone_from : (b : Book) (s t : Pair) → (t.seat.phase ≡ Apart) × (t.held ≡ s.held) × (t.hub ≡ s.hub) × (t.running ≡ s.running) → Sound b s → Kept b s t
@@ -203,7 +205,7 @@ left_keeps b s t g = gone_from b s t (g.phase, g.held, g.hub, g.running)
 pub seat_acted_keep : (b : Book) (s : Pair) (p : SeatPhase) (v : Value) (o : Outcome Received) → s.seat.phase ≡ p → SeatActed s p v o → Sound b s → Taken b s.hub.phase s.seat.phase s.seat.frame s.running.log s.held s.down.waiting v → Kept b s o.after
 seat_acted_keep b s _ _ _ ph (seat_leaves p v o g) i y = left_keeps b s o.after g i
 seat_acted_keep b s _ _ _ ph (seat_accepts x top su) i y =
-    let in_session_lem : (n : Meaning) → Begins n.messages (b.lists n.session) → n.session ≡ x → Inv b s.hub.phase Live s.seat.frame s.running.log n s.down.waiting = λ n pre e. relog b _ _ _ _ _ _ n y.sent pre y.rest (e ∙ y.honest.0) i in
+    let in_session_lem : (n : Meaning) → IsPrefix n.messages (b.lists n.session) → n.session ≡ x → Inv b s.hub.phase Live s.seat.frame s.running.log n s.down.waiting = λ n pre e. relog b _ _ _ _ _ _ n y.sent pre y.rest (e ∙ y.honest.0) i in
     let both = cond_both (eqb s.held.session x) s.held (begun s.held x) (λ n. Inv b s.hub.phase Live s.seat.frame s.running.log n s.down.waiting × Grows s.held n)
     (λ t. (in_session_lem s.held i.held (eqb-true _ _ t), grows_refl s.held))
     (λ t. (in_session_lem (begun s.held x) (b.lists x, refl) refl, inr (let ne = eqb-false s.held.session x t in ⊎_elim (λ e. absurd (ne e)) (λ o. o) (le_cases s.held.session x (omega (arith, y.rest.lower, y.honest.0)))))) in
@@ -273,7 +275,7 @@ ticks_keep b s i =
     kept_trans b s m (tick s) (same_start b s (counted s) m refl p) q
 
 -- a call that is refused keeps everything; the book stays too
-tried_keep : (b c : Book) (s t : Pair) (Fact : Type 0) (o : Done) → Tried s t Fact o → (Fact → Kept c s t) → (n : Answer → Book) → ((r : Refusal) → n (Did (Err r)) ≡ b) → n (Did (Ok tt)) ≡ c → Sound b s → Kept (n (Did o.answer)) s o.after
+tried_keep : (b c : Book) (s t : Pair) (Fact : Type 0) (o : Done) → Tried s t Fact o → (Fact → Kept c s t) → (n : Answer → Book) → ((r : Refusal) → n (Answer.Done (Err r)) ≡ b) → n (Answer.Done (Ok tt)) ≡ c → Sound b s → Kept (n (Answer.Done o.answer)) s o.after
 tried_keep b c s t Fact _ (refused r) k n e f i = subst (λ x. Kept x s s) (sym (e r)) (same_log b s s refl i)
 tried_keep b c s t Fact _ (granted x) k n e f i = subst (λ y. Kept y s t) (sym f) (k x)
 
@@ -302,7 +304,7 @@ unnoted SeatSend b = refl
 unnoted Tick b = refl
 unnoted Round b = refl
 
-pub step_keeps : (b : Book) (s : Pair) (c : Call) (d : Deed) → Step s c d → Sound b s → Kept (noted c d.answer b) s d.after
+pub step_keeps : (b : Book) (s : Pair) (c : Call) (d : Effect) → Step s c d → Sound b s → Kept (noted c d.answer b) s d.after
 step_keeps b s _ _ (short_buffer c e) i = subst (λ x. Kept x s s) (sym (unnoted c b)) (same_log b s s refl i)
 step_keeps b s _ _ (connects how e) i = tried_keep b b s _ _ _ (connect_tried how s) (λ f. same_log b s _ refl (to_waiting b _ _ _ _ _ _ i)) (λ a. b) (λ r. refl) refl i
 step_keeps b s _ _ cuts i = same_log b s _ refl (to_apart b _ _ _ _ _ _ _ _ (to_shut b _ _ _ _ _ _ i))
@@ -346,8 +348,8 @@ set_up_sound s u =
       few = u.hub_log_sound.placed;
       places = u.hub_log_sound.places_within;
       short = u.hub_log_sound.short;
-      held = ⊎_elim (λ z. subst (λ ms. Begins ms ((opened k).lists s.held.session)) (sym z.1) ((opened k).lists s.held.session, refl))
-          (λ z. subst (λ x. Begins s.held.messages ((opened k).lists x)) (sym z.0) (subst (λ ms. Begins s.held.messages ms) (sym (opened_at k)) z.1)) u.beginning;
+      held = ⊎_elim (λ z. subst (λ ms. IsPrefix ms ((opened k).lists s.held.session)) (sym z.1) ((opened k).lists s.held.session, refl))
+          (λ z. subst (λ x. IsPrefix s.held.messages ((opened k).lists x)) (sym z.0) (subst (λ ms. IsPrefix s.held.messages ms) (sym (opened_at k)) z.1)) u.beginning;
       older = ⊎_elim (λ z. omega (arith, z.0)) (λ z. omega (arith, z.0)) u.beginning;
       rejected = subst Rejected (sym u.shut) tt;
       flight = away u.apart;

@@ -1,7 +1,7 @@
 -- The rounds of a catch-up can be made, and lead to the hub's log.
 use Rattle.std.proofs.Common.{◌≡◌, ℕ, zero, suc, ◌≤◌, false, ◌||◌, None, arith}
 use Rattle.std.proofs.lemmas.Bool.{or_parts, or_from, le-ltb, ltb-false}
-use Rattle.layout.specs.Limits.{packet_limit}
+use Rattle.wire.specs.Limits.{packet_limit}
 use Rattle.rules.specs.declared.phases.How.{How}
 use Rattle.rules.specs.declared.phases.How.TheVariants.{Join, Anew, Fetch}
 use Rattle.rules.specs.State.{Pair}

@@ -2,10 +2,10 @@
 use Rattle.std.proofs.Common.{◌≡◌, ℕ, ◌+◌, ◌-◌, ◌<◌, ◌≤◌, min, List, [], length, get_or, take, Ok, Result, sym, ap, ◌∙◌, ⊎_elim, arith}
 use Rattle.std.proofs.lemmas.List.{append-nil, get_or-take, length-take-le}
 use Rattle.std.proofs.lemmas.Bool.{cases_lt, lt-ltb, le-ltb, cond-true, cond-false}
-use Rattle.fault.specs.declared.faults.PacketFault.{PacketFault}
-use Rattle.layout.specs.Limits.{packet_limit}
+use Rattle.wire.specs.declared.faults.PacketFault.{PacketFault}
+use Rattle.wire.specs.Limits.{packet_limit}
 use Rattle.packet.specs.Values.{Value, Valid, encode, letter, length_number}
-use Rattle.packet.specs.Decoding.{Answer, part, whole, decode, head_number}
+use Rattle.packet.specs.Decoding.{Decoded, part, whole, decode, head_number}
 use Rattle.packet.proofs.Framing.{within}
 use Rattle.packet.proofs.Back.{reads_back, length_encode}
 use Rattle.packet.proofs.Fronts.{head_encode, beginnings_are_parts}
@@ -32,7 +32,7 @@ lacks v k va l =
 abbrev pub sesm : Family
 sesm = record {
   Value = Value;
-  Said = Result Answer PacketFault;
+  Said = Result Decoded PacketFault;
   Valid = Valid;
   encode = encode;
   decode = decode;

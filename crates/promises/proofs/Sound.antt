@@ -5,9 +5,9 @@ use Rattle.std.specs.List.{slice_get, flat_map, AllByRecursion as All}
 use Rattle.std.proofs.lemmas.List.{length_push}
 use Rattle.std.proofs.ByRecursion.{All-push, All-weaker}
 use Rattle.std.proofs.lemmas.Bool.{cond_both, eq-eqb, ne_eqb, cond-true, cond-false, cases_Bool}
-use Rattle.layout.specs.Limits.{message_limit}
-use Rattle.layout.specs.declared.statuses.Status.{Status}
-use Rattle.layout.specs.declared.statuses.Status.TheVariants.{Accepted, UnknownUser, SessionUnavailable, InvalidNumber, WrongVersion, WrongProtocol, AlreadyLoggedIn}
+use Rattle.wire.specs.Limits.{message_limit}
+use Rattle.wire.specs.declared.statuses.Status.{Status}
+use Rattle.wire.specs.declared.statuses.Status.TheVariants.{Accepted, UnknownUser, SessionUnavailable, InvalidNumber, WrongVersion, WrongProtocol, AlreadyLoggedIn}
 use Rattle.packet.specs.Values.{Value, Valid, login_request, login_response, sequenced, unsequenced, synchronization_complete, retransmission_request, logout_request, good_bye, end_of_session, hub_heartbeat, seat_heartbeat, test, encode}
 use Rattle.message_log.specs.Meaning.{Meaning, count, room, begun, size_limit}
 use Rattle.message_log.specs.Meaning as Log
@@ -20,7 +20,7 @@ use Rattle.rules.specs.declared.phases.SeatPhase.TheVariants.{Apart, Asking, Liv
 use Rattle.rules.specs.State.{Pair}
 use Rattle.rules.specs.Calls.{busy, last_session}
 use Rattle.promises.specs.Book.{Message, Book, added, turned}
-use Rattle.promises.specs.Runs.{Begins}
+use Rattle.promises.specs.Runs.{IsPrefix}
 use Rattle.promises.proofs.Fronts.{begins_refl, begins_push, begins_trans, nth_append, get_d_push}
 use Rattle.promises.proofs.Frames.{Short, short_push, stream_push}
 use Rattle.promises.proofs.Packets.{sesm}
@@ -106,7 +106,7 @@ pub record Inv (b : Book) (h : HubPhase) (p : SeatPhase) (f : List ℕ) (k l : M
   pub few : count k ≤ k.places
   pub places : k.places ≤ size_limit
   pub short : (i : ℕ) → length (get_or k.messages i []) ≤ message_limit
-  pub held : Begins l.messages (b.lists l.session)
+  pub held : IsPrefix l.messages (b.lists l.session)
   pub older : l.session ≤ k.session
   pub rejected : Rejected h
   pub flight : Flight b.lists h p f k.session l.session w
@@ -116,7 +116,7 @@ Sound b s = Inv b s.hub.phase s.seat.phase s.seat.frame s.running.log s.held s.d
 
 -- the seat's log stays or grows in its session, or goes on to a later one
 abbrev pub Grows : Meaning → Meaning → Type 0
-Grows l n = ((n.session ≡ l.session) × Begins l.messages n.messages) ⊎ (l.session < n.session)
+Grows l n = ((n.session ≡ l.session) × IsPrefix l.messages n.messages) ⊎ (l.session < n.session)
 
 pub grows_refl : (l : Meaning) → Grows l l
 grows_refl l = inl (refl, begins_refl l.messages)
@@ -174,7 +174,7 @@ module _ (b : Book) (h : HubPhase) (p : SeatPhase) (f : List ℕ) (k l : Meaning
           })
 
   -- the seat's log is another, in the session of the connection
-  pub relog : (n : Meaning) → early h ≡ false → Begins n.messages (b.lists n.session) → (y : Flying b.lists h p f k.session l.session w) → n.session ≡ y.session → Inv b h p f k l w → Inv b h Live f k n w
+  pub relog : (n : Meaning) → early h ≡ false → IsPrefix n.messages (b.lists n.session) → (y : Flying b.lists h p f k.session l.session w) → n.session ≡ y.session → Inv b h p f k l w → Inv b h Live f k n w
   relog n ea pre y e i = record {
     running = i.running;
     kept = i.kept;
@@ -192,7 +192,7 @@ module _ (b : Book) (h : HubPhase) (p : SeatPhase) (f : List ℕ) (k l : Meaning
   }
 
 -- more was published
-honest_more : (xs ys : List Message) (x : ℕ) (v : Value) → Begins xs ys → Honest xs x v → Honest ys x v
+honest_more : (xs ys : List Message) (x : ℕ) (v : Value) → IsPrefix xs ys → Honest xs x v → Honest ys x v
 honest_more xs ys x (login_request v u c p s n) pre h = tt
 honest_more xs ys x (login_response t s n) pre h = h
 honest_more xs ys x (sequenced n m) pre h = (h.0, rw pre.1 (nth_append xs pre.0 (n - 1) m h.1))
@@ -206,8 +206,8 @@ honest_more xs ys x hub_heartbeat pre h = tt
 honest_more xs ys x seat_heartbeat pre h = tt
 honest_more xs ys x (test t) pre h = tt
 
-pub list_grows : (b : Book) (m : Message) (x : ℕ) → Begins (b.lists x) ((added b m).lists x)
-list_grows b m x = cond_both (eqb x b.running) (b.lists x ++ (m ∷ [])) (b.lists x) (λ z. Begins (b.lists x) z) (λ t. begins_push (b.lists x) m) (λ t. begins_refl (b.lists x))
+pub list_grows : (b : Book) (m : Message) (x : ℕ) → IsPrefix (b.lists x) ((added b m).lists x)
+list_grows b m x = cond_both (eqb x b.running) (b.lists x ++ (m ∷ [])) (b.lists x) (λ z. IsPrefix (b.lists x) z) (λ t. begins_push (b.lists x) m) (λ t. begins_refl (b.lists x))
 
 pub publishes : (b : Book) (h : HubPhase) (p : SeatPhase) (f : List ℕ) (k l : Meaning) (w : List ℕ) (m : Message) → takes k (length m) ≡ Ok tt → Inv b h p f k l w → Inv (added b m) h p f (Log.added k m) l w
 publishes b h p f k l w m ok i =

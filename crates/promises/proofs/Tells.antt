@@ -3,15 +3,15 @@ use Rattle.std.proofs.Common.{◌≡◌, ℕ, ◌+◌, ◌-◌, ◌^◌, ◌<◌
 use Rattle.std.specs.List.{flat_map, AllByRecursion as All}
 use Rattle.std.proofs.lemmas.List.{append-nil, length_push}
 use Rattle.std.proofs.lemmas.Bool.{cond_both, eqb-true, eq-eqb, ne_eqb, cond-true, cond-false, cases_eq, cases_lt, or_cases, and_left, and_from, le-leb}
-use Rattle.fault.specs.declared.faults.Fault.{Fault}
-use Rattle.fault.specs.declared.refusals.Refusal.{Refusal}
-use Rattle.fault.specs.declared.refusals.Refusal.TheVariants.{ShortBuffer}
-use Rattle.layout.specs.declared.letters.Letter.{Letter}
-use Rattle.layout.specs.declared.statuses.Status.{Status}
-use Rattle.layout.specs.declared.statuses.Status.TheVariants.{Accepted, UnknownUser, SessionUnavailable, InvalidNumber, WrongVersion, WrongProtocol, AlreadyLoggedIn}
-use Rattle.layout.specs.declared.goodbyes.GoodByeReason.{GoodByeReason}
-use Rattle.layout.specs.declared.goodbyes.GoodByeReason.TheVariants as G
-use Rattle.layout.specs.declared.logouts.LogoutReason.TheVariants as X
+use Rattle.wire.specs.declared.faults.Fault.{Fault}
+use Rattle.wire.specs.declared.refusals.Refusal.{Refusal}
+use Rattle.wire.specs.declared.refusals.Refusal.TheVariants.{ShortBuffer}
+use Rattle.wire.specs.declared.letters.Letter.{Letter}
+use Rattle.wire.specs.declared.statuses.Status.{Status}
+use Rattle.wire.specs.declared.statuses.Status.TheVariants.{Accepted, UnknownUser, SessionUnavailable, InvalidNumber, WrongVersion, WrongProtocol, AlreadyLoggedIn}
+use Rattle.wire.specs.declared.goodbyes.GoodByeReason.{GoodByeReason}
+use Rattle.wire.specs.declared.goodbyes.GoodByeReason.TheVariants as G
+use Rattle.wire.specs.declared.logouts.LogoutReason.TheVariants as X
 use Rattle.packet.specs.Values.{Value, Valid, login_request, login_response, sequenced, unsequenced, synchronization_complete, logout_request, good_bye, end_of_session, hub_heartbeat, test, encode}
 use Rattle.packet.specs.Decoding.{part, whole}
 use Rattle.line.specs.Lines.{LineView, fits}
@@ -34,9 +34,11 @@ use Rattle.rules.specs.Frames.{lack, judged}
 use Rattle.rules.specs.Hub.{hub_gone, hub_letters, first_number, owes, Sending, hub_sends}
 use Rattle.rules.specs.Seat.{seat_gone, in_session, next_number, is_apart, seat_letters, seat_sends}
 use Rattle.rules.specs.Calls.{Done, cut, counted, hub_timed, tick, busy, is_serving, is_live, connected, fetch_end}
-use Rattle.rules.specs.Rounds.{HubReceives, SeatReceives, Drains, ends, more, Rounds, Call, Connect, Cut, Publish, Finish, Roll, Tell, Say, Leave, HubReceive, SeatReceive, HubSend, SeatSend, Tick, Round, Answer, Did, Deed, Step, short_buffer, connects, cuts, publishes, finishes, rolls, tells, says, leaves, hub_receives, seat_receives, hub_sends_one, seat_sends_one, ticks, rounds, refusal}
+use Rattle.rules.specs.declared.answers.Answer.{Answer}
+use Rattle.rules.specs.declared.answers.Answer.TheVariants as Answer
+use Rattle.rules.specs.Rounds.{HubReceives, SeatReceives, Drains, ends, more, Rounds, Call, Connect, Cut, Publish, Finish, Roll, Tell, Say, Leave, HubReceive, SeatReceive, HubSend, SeatSend, Tick, Round, Effect, Step, short_buffer, connects, cuts, publishes, finishes, rolls, tells, says, leaves, hub_receives, seat_receives, hub_sends_one, seat_sends_one, ticks, rounds, refusal}
 use Rattle.promises.specs.Book.{Message, Book, opened, added, turned, noted}
-use Rattle.promises.specs.Runs.{Begins, Note, accepts, written, renoted, World, Run, begins, goes_on, SetUp, History}
+use Rattle.promises.specs.Runs.{IsPrefix, Note, accepts, written, renoted, World, Run, begins, goes_on, SetUp, History}
 use Rattle.promises.specs.Promises.{Holds, InStepIsTrue}
 use Rattle.promises.proofs.Fronts.{begins_push, begins_trans, begins_length, begins_shorter}
 use Rattle.promises.proofs.Frames.{Short, short_nil}
@@ -218,8 +220,8 @@ module _ (o : Option Note) (s : Pair) (d : LineView) (x : ℕ) (xs : List ℕ) (
 settle : (o : Option Note) (w : View) (v : Value) (cm : Came o w v) (p : SeatPhase) (st : Bool) (l : Meaning) → (p ≡ Asking → Asked (seated w p st l) × (st ≡ false)) → (p ≡ Live → l.session ≡ cm.session) → Leads o cm.session w.number (count (in_session l cm.session)) cm.rest (goal w.hub) → Joined o (seated w p st l)
 settle o w v cm p st l a b c = record { session = cm.session; packets = cm.rest; stream = cm.stream; short = cm.short; valid = cm.valid; no_fetch = cm.no_fetch; notes = cm.notes; asks = a; live = b; stage = cm.stages (seated w p st l) refl; leads = c }
 
-holds_from : (o : Option Note) (b : Book) (l : Meaning) → Begins l.messages (b.lists l.session) → ((k : Note) → o ≡ Some k → Begins k.messages (b.lists k.session)) → (k : Note) → o ≡ Some k → k.session ≡ l.session → length k.messages ≤ count l → Holds o l
-holds_from o b l pre nt k e se le = record { note = k; is = e; session = se; all = begins_shorter k.messages l.messages (b.lists l.session) (subst (λ x. Begins k.messages (b.lists x)) se (nt k e)) pre le }
+holds_from : (o : Option Note) (b : Book) (l : Meaning) → IsPrefix l.messages (b.lists l.session) → ((k : Note) → o ≡ Some k → IsPrefix k.messages (b.lists k.session)) → (k : Note) → o ≡ Some k → k.session ≡ l.session → length k.messages ≤ count l → Holds o l
+holds_from o b l pre nt k e se le = record { note = k; is = e; session = se; all = begins_shorter k.messages l.messages (b.lists l.session) (subst (λ x. IsPrefix k.messages (b.lists x)) se (nt k e)) pre le }
 
 -- the seat is apart
 apart_tru : (o : Option Note) (b : Book) (s t : Pair) → t.seat.phase ≡ Apart → t.seat.in_step ≡ s.seat.in_step → t.held ≡ s.held → t.account ≡ s.account → Truth o b s → Truth o b t
@@ -251,7 +253,7 @@ module _ (o : Option Note) (b : Book) (s : Pair) (d : LineView) (x : ℕ) (xs : 
       go (joins y) = let cm = came o s d x xs tk letters y v ju in joins (settle o (view heard) v cm s.seat.phase s.seat.in_step s.held cm.asks cm.live (k cm))
 
   -- an accepted response
-  accepts_tru : (z top : ℕ) → s.seat.phase ≡ Asking → judged letters (s.seat.frame ++ (x ∷ xs)) ≡ Ok (whole (login_response Accepted z top)) → Begins (in_session s.held z).messages (b.lists (in_session s.held z).session) → Truth o b s → Tru o b (seated (view heard) Live (s.seat.in_step || eqb (top + 1) s.seat.number) (in_session s.held z))
+  accepts_tru : (z top : ℕ) → s.seat.phase ≡ Asking → judged letters (s.seat.frame ++ (x ∷ xs)) ≡ Ok (whole (login_response Accepted z top)) → IsPrefix (in_session s.held z).messages (b.lists (in_session s.held z).session) → Truth o b s → Tru o b (seated (view heard) Live (s.seat.in_step || eqb (top + 1) s.seat.number) (in_session s.held z))
   accepts_tru z top ph ju pre tr = go tr.way
     where
       l : Meaning
@@ -328,7 +330,7 @@ module _ (o : Option Note) (b : Book) (s : Pair) (d : LineView) (x : ℕ) (xs : 
           }
 
   -- synchronization complete
-  completes_tru : s.seat.phase ≡ Live → s.seat.fetch ≡ None → judged letters (s.seat.frame ++ (x ∷ xs)) ≡ Ok (whole synchronization_complete) → Begins s.held.messages (b.lists s.held.session) → Truth o b s → Tru o b (seated (view heard) Live true s.held)
+  completes_tru : s.seat.phase ≡ Live → s.seat.fetch ≡ None → judged letters (s.seat.frame ++ (x ∷ xs)) ≡ Ok (whole synchronization_complete) → IsPrefix s.held.messages (b.lists s.held.session) → Truth o b s → Tru o b (seated (view heard) Live true s.held)
   completes_tru ph fe ju pre tr = go tr.way
     where
       go : Way o (view s) → Tru o b (seated (view heard) Live true s.held)
@@ -522,9 +524,9 @@ live_is Asking e = (cc)
 live_is Live e = refl
 
 -- a call that is refused changes nothing, and neither book nor note
-tried_tru : (o p : Option Note) (b c : Book) (s t : Pair) (Fact : Type 0) (r : Done) → Tried s t Fact r → (Fact → Truth p c t) → (n : Answer → Book) (k : Answer → Option Note) → ((x : Refusal) → (n (Did (Err x)) ≡ b) × (k (Did (Err x)) ≡ o)) → n (Did (Ok tt)) ≡ c → k (Did (Ok tt)) ≡ p → Truth o b s → Truth (k (Did r.answer)) (n (Did r.answer)) r.after
-tried_tru o p b c s t Fact _ (refused x) f n k e g h tr = subst (λ z. Truth z (n (Did (Err x))) s) (sym (e x).1) (subst (λ z. Truth o z s) (sym (e x).0) tr)
-tried_tru o p b c s t Fact _ (granted x) f n k e g h tr = subst (λ z. Truth z (n (Did (Ok tt))) t) (sym h) (subst (λ z. Truth p z t) (sym g) (f x))
+tried_tru : (o p : Option Note) (b c : Book) (s t : Pair) (Fact : Type 0) (r : Done) → Tried s t Fact r → (Fact → Truth p c t) → (n : Answer → Book) (k : Answer → Option Note) → ((x : Refusal) → (n (Answer.Done (Err x)) ≡ b) × (k (Answer.Done (Err x)) ≡ o)) → n (Answer.Done (Ok tt)) ≡ c → k (Answer.Done (Ok tt)) ≡ p → Truth o b s → Truth (k (Answer.Done r.answer)) (n (Answer.Done r.answer)) r.after
+tried_tru o p b c s t Fact _ (refused x) f n k e g h tr = subst (λ z. Truth z (n (Answer.Done (Err x))) s) (sym (e x).1) (subst (λ z. Truth o z s) (sym (e x).0) tr)
+tried_tru o p b c s t Fact _ (granted x) f n k e g h tr = subst (λ z. Truth z (n (Answer.Done (Ok tt))) t) (sym h) (subst (λ z. Truth p z t) (sym g) (f x))
 
 short_noted : (c : Call) (b : Book) (o : Option Note) (q : ℕ) → (noted c (refusal c ShortBuffer) b ≡ b) × (renoted c (refusal c ShortBuffer) None q b o ≡ o)
 short_noted (Connect how) b o q = (refl, refl)
@@ -542,7 +544,7 @@ short_noted SeatSend b o q = (refl, refl)
 short_noted Tick b o q = (refl, refl)
 short_noted Round b o q = (refl, refl)
 
-pub step_tru : (o : Option Note) (b : Book) (s : Pair) (c : Call) (d : Deed) → Step s c d → Sound b s → Truth o b s → Truth (renoted c d.answer d.wrote s.seat.number b o) (noted c d.answer b) d.after
+pub step_tru : (o : Option Note) (b : Book) (s : Pair) (c : Call) (d : Effect) → Step s c d → Sound b s → Truth o b s → Truth (renoted c d.answer d.wrote s.seat.number b o) (noted c d.answer b) d.after
 step_tru o b s _ _ (short_buffer c e) i tr = let n = short_noted c b o s.seat.number in subst (λ z. Truth z (noted c (refusal c ShortBuffer) b) s) (sym n.1) (subst (λ z. Truth o z s) (sym n.0) tr)
 step_tru o b s _ _ (connects how e) i tr = tried_tru o None b b s _ _ _ (connect_tried how s) (λ f. connected_tru o b s how i tr) (λ a. b) (λ a. renoted (Connect how) a None s.seat.number b o) (λ x. (refl, refl)) refl refl tr
 step_tru o b s _ _ cuts i tr = apart_tru o b s (cut s) refl refl refl refl tr

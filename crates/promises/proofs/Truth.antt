@@ -5,7 +5,7 @@ use Rattle.std.specs.List.{flat_map, AllByRecursion as All}
 use Rattle.std.proofs.lemmas.List.{append-nil}
 use Rattle.std.proofs.ByRecursion.{All-push}
 use Rattle.std.proofs.lemmas.Bool.{cond_both, eq-eqb, ne_eqb, cond-true, cond-false}
-use Rattle.layout.specs.declared.statuses.Status.TheVariants.{Accepted}
+use Rattle.wire.specs.declared.statuses.Status.TheVariants.{Accepted}
 use Rattle.packet.specs.Values.{Value, Valid, login_request, login_response, sequenced, unsequenced, synchronization_complete, retransmission_request, logout_request, good_bye, end_of_session, hub_heartbeat, seat_heartbeat, test, encode}
 use Rattle.message_log.specs.Meaning.{Meaning, count, size_limit}
 use Rattle.account.specs.Logins.{spoken_version}
@@ -17,7 +17,7 @@ use Rattle.rules.specs.State.{Pair}
 use Rattle.rules.specs.Hub.{first_number, owes}
 use Rattle.rules.specs.Seat.{in_session, next_number}
 use Rattle.promises.specs.Book.{Book}
-use Rattle.promises.specs.Runs.{Begins, Note, as_of, accepts, tells_all, or_else, written}
+use Rattle.promises.specs.Runs.{IsPrefix, Note, as_of, accepts, tells_all, or_else, written}
 use Rattle.promises.specs.Promises.{Holds}
 use Rattle.promises.proofs.Fronts.{begins_refl, begins_length}
 use Rattle.promises.proofs.Frames.{Short, short_push, stream_push}
@@ -131,7 +131,7 @@ pub data Way (o : Option Note) (v : View) : Type 0 where
   joins : Joined o v → Way o v
 
 pub record Tru (o : Option Note) (b : Book) (v : View) : Type 0 where
-  pub notes : (k : Note) → o ≡ Some k → Begins k.messages (b.lists k.session)
+  pub notes : (k : Note) → o ≡ Some k → IsPrefix k.messages (b.lists k.session)
   pub truth : v.in_step ≡ true → Holds o v.held
   pub user : length v.user ≡ 5
   pub computer : length v.computer ≡ 8
@@ -173,7 +173,7 @@ after w h v = hubbed w h w.hub_frame_lem w.up (w.down ++ encode v)
 
 pub tru_writes : (o : Option Note) (b : Book) (w : View) (h : HubPhase) (v : Value) → ((y : Joined o w) → Joined (written w.number b (Some v) o) (after w h v)) → Tru o b w → Tru (written w.number b (Some v) o) b (after w h v)
 tru_writes o b w h v k i = record {
-  notes = λ j e. ⊎_elim (λ z. i.notes j z) (λ z. subst (λ (x : Note). Begins x.messages (b.lists x.session)) (sym z) (begins_refl (b.lists b.running))) (written_new o w.number b v j e);
+  notes = λ j e. ⊎_elim (λ z. i.notes j z) (λ z. subst (λ (x : Note). IsPrefix x.messages (b.lists x.session)) (sym z) (begins_refl (b.lists b.running))) (written_new o w.number b v j e);
   truth = λ e. let t = i.truth e in record { note = t.note; is = written_keeps o w.number b v t.note t.is; session = t.session; all = t.all };
   user = i.user;
   computer = i.computer;
@@ -252,7 +252,7 @@ joined_answer o b w q ph ru ke v ev va y =
     }
 
 -- the hub tells that all is sent
-pub joined_complete : (o : Option Note) (b : Book) (w : View) (q n : ℕ) (h : w.hub ≡ Serving q n true) → count w.kept < n → b.running ≡ w.kept.session → b.lists w.kept.session ≡ w.kept.messages → ((k : Note) → o ≡ Some k → Begins k.messages (b.lists k.session)) → Joined o w → Joined (written w.number b (Some synchronization_complete) o) (after w (Serving q n false) synchronization_complete)
+pub joined_complete : (o : Option Note) (b : Book) (w : View) (q n : ℕ) (h : w.hub ≡ Serving q n true) → count w.kept < n → b.running ≡ w.kept.session → b.lists w.kept.session ≡ w.kept.messages → ((k : Note) → o ≡ Some k → IsPrefix k.messages (b.lists k.session)) → Joined o w → Joined (written w.number b (Some synchronization_complete) o) (after w (Serving q n false) synchronization_complete)
 joined_complete o b w q n ph lt ru ke nt y =
     let st = at_stage o w (Serving q n true) y ph in
     let p : Option Note = or_else o (as_of b) in

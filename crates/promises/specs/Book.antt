@@ -2,7 +2,9 @@
 -- and its answer, and nothing else.
 use Rattle.std.specs.Prelude.{ℕ, ◌+◌, Bool, true, false, cond, List, [], ◌∷◌, ◌++◌, Ok, Err, ◌==◌}
 use Rattle.message_log.specs.Meaning.{Meaning}
-use Rattle.rules.specs.Rounds.{Call, Connect, Cut, Publish, Finish, Roll, Tell, Say, Leave, HubReceive, SeatReceive, HubSend, SeatSend, Tick, Round, Answer, Did, Took, Put, Went}
+use Rattle.rules.specs.declared.answers.Answer.{Answer}
+use Rattle.rules.specs.declared.answers.Answer.TheVariants as Answer
+use Rattle.rules.specs.Rounds.{Call, Connect, Cut, Publish, Finish, Roll, Tell, Say, Leave, HubReceive, SeatReceive, HubSend, SeatSend, Tick, Round}
 
 abbrev pub Message : Type 0
 Message = List ℕ
@@ -26,14 +28,14 @@ abbrev pub turned : Book → Book
 turned b = record { running = b.running + 1; lists = b.lists }
 
 abbrev pub is_granted : Answer → Bool
-is_granted (Did (Ok x)) = true
-is_granted (Did (Err r)) = false
-is_granted (Took (Ok x)) = true
-is_granted (Took (Err r)) = false
-is_granted (Put (Ok x)) = true
-is_granted (Put (Err r)) = false
-is_granted (Went (Ok x)) = true
-is_granted (Went (Err r)) = false
+is_granted (Answer.Done (Ok x)) = true
+is_granted (Answer.Done (Err r)) = false
+is_granted (Answer.Received (Ok x)) = true
+is_granted (Answer.Received (Err r)) = false
+is_granted (Answer.Sent (Ok x)) = true
+is_granted (Answer.Sent (Err r)) = false
+is_granted (Answer.Round (Ok x)) = true
+is_granted (Answer.Round (Err r)) = false
 
 -- a granted publish adds its message, a granted roll starts the next session, and no other call changes the book
 abbrev pub noted : Call → Answer → Book → Book

@@ -1,8 +1,8 @@
 -- Runs: lists of calls, granted or refused, with the book and the note that go along with them. They are stated
 -- for any rules, so that wrong ones can be tried too.
 use Rattle.std.specs.Prelude.{◌≡◌, ℕ, suc, ◌+◌, ◌<◌, Bool, true, false, cond, ◌&&◌, ◌⊎◌, List, [], ◌++◌, length, Some, None, Ok, Option, ◌==◌}
-use Rattle.layout.specs.declared.statuses.Status.{Status}
-use Rattle.layout.specs.declared.statuses.Status.TheVariants.{Accepted, UnknownUser, SessionUnavailable, InvalidNumber, WrongVersion, WrongProtocol, AlreadyLoggedIn}
+use Rattle.wire.specs.declared.statuses.Status.{Status}
+use Rattle.wire.specs.declared.statuses.Status.TheVariants.{Accepted, UnknownUser, SessionUnavailable, InvalidNumber, WrongVersion, WrongProtocol, AlreadyLoggedIn}
 use Rattle.packet.specs.Values.{Value, login_request, login_response, sequenced, unsequenced, synchronization_complete, retransmission_request, logout_request, good_bye, end_of_session, hub_heartbeat, seat_heartbeat, test}
 use Rattle.rules.specs.State as Line
 use Rattle.message_log.specs.Meaning as Log
@@ -10,12 +10,14 @@ use Rattle.rules.specs.declared.phases.HubPhase.TheVariants.{Shut}
 use Rattle.rules.specs.declared.phases.SeatPhase.TheVariants.{Apart}
 use Rattle.rules.specs.declared.answers.Report.{Report}
 use Rattle.rules.specs.State.{Pair}
-use Rattle.rules.specs.Rounds.{Call, Connect, Cut, Publish, Finish, Roll, Tell, Say, Leave, HubReceive, SeatReceive, HubSend, SeatSend, Tick, Round, Answer, Went, Deed}
+use Rattle.rules.specs.declared.answers.Answer.{Answer}
+use Rattle.rules.specs.declared.answers.Answer.TheVariants as Answer
+use Rattle.rules.specs.Rounds.{Call, Connect, Cut, Publish, Finish, Roll, Tell, Say, Leave, HubReceive, SeatReceive, HubSend, SeatSend, Tick, Round, Effect}
 use Rattle.promises.specs.Book.{Message, Book, opened, is_granted, noted}
 
 -- one list begins another
-abbrev pub Begins : List Message → List Message → Type 0
-Begins xs ys = (rest : List Message) × (ys ≡ xs ++ rest)
+abbrev pub IsPrefix : List Message → List Message → Type 0
+IsPrefix xs ys = (rest : List Message) × (ys ≡ xs ++ rest)
 
 -- The note: what the book had, for the session that was running, when the hub send or the round began that wrote
 -- the packet which tells the seat that it is in step.
@@ -83,7 +85,7 @@ pub record World : Type 0 where
   pub book : Book
   pub note : Option Note
 
-abbrev pub stepped : World → Call → Deed → World
+abbrev pub stepped : World → Call → Effect → World
 stepped w call d =
     record {
       pair = d.after;
@@ -91,14 +93,14 @@ stepped w call d =
       note = renoted call d.answer d.wrote w.pair.seat.number w.book w.note;
     }
 
-pub data Run (Rules : Pair → Call → Deed → Type 0) (start : World) : World → Type 0 where
+pub data Run (Rules : Pair → Call → Effect → Type 0) (start : World) : World → Type 0 where
   begins : Run Rules start start
-  goes_on : {w : World} → Run Rules start w → (call : Call) (d : Deed) → Rules w.pair call d → Run Rules start (stepped w call d)
+  goes_on : {w : World} → Run Rules start w → (call : Call) (d : Effect) → Rules w.pair call d → Run Rules start (stepped w call d)
 
 -- so many granted rounds, one after the other
-pub data GrantedRounds (Rules : Pair → Call → Deed → Type 0) : ℕ → Pair → Pair → Type 0 where
+pub data GrantedRounds (Rules : Pair → Call → Effect → Type 0) : ℕ → Pair → Pair → Type 0 where
   no_round : (s : Pair) → GrantedRounds Rules 0 s s
-  round : (n : ℕ) (s t : Pair) (d : Deed) (report : Report) → Rules s Round d → d.answer ≡ Went (Ok report) → GrantedRounds Rules n d.after t →
+  round : (n : ℕ) (s t : Pair) (d : Effect) (report : Report) → Rules s Round d → d.answer ≡ Answer.Round (Ok report) → GrantedRounds Rules n d.after t →
       GrantedRounds Rules (suc n) s t
 
 -- A pair that was just set up.
@@ -110,7 +112,7 @@ pub record SetUp (s : Pair) : Type 0 where
   pub begun : 0 < s.running.log.session
   pub seat_log_sound : Log.Sound s.held
   -- the seat's log is empty without a session, or a beginning of the hub's under the same session
-  pub beginning : ((s.held.session ≡ 0) × (s.held.messages ≡ [])) ⊎ ((s.held.session ≡ s.running.log.session) × Begins s.held.messages s.running.log.messages)
+  pub beginning : ((s.held.session ≡ 0) × (s.held.messages ≡ [])) ⊎ ((s.held.session ≡ s.running.log.session) × IsPrefix s.held.messages s.running.log.messages)
   pub up_line : Line.Steady s.up
   pub down_line : Line.Steady s.down
   pub user : length s.account.user ≡ 5
@@ -121,5 +123,5 @@ abbrev pub at_first : Pair → World
 at_first s = record { pair = s; book = opened s.running.log; note = None }
 
 -- what a run has made of a pair that was set up
-abbrev pub History : (Pair → Call → Deed → Type 0) → Pair → World → Type 0
+abbrev pub History : (Pair → Call → Effect → Type 0) → Pair → World → Type 0
 History Rules s w = SetUp s × Run Rules (at_first s) w

@@ -1,3 +1,6 @@
 pub mod Words
 pub mod Choices
 pub mod Passing
+pub mod Tallies
+pub mod Pumping
+pub mod Pumpers

@@ -1,11 +1,11 @@
 -- What the chosen line means, and what passes through it.
 use Rattle.std.specs.Prelude.{ℕ, List, Some, None, Option}
-use Rattle.layout.specs.Limits.{packet_limit}
+use Rattle.wire.specs.Limits.{packet_limit}
 use Rattle.line.specs.Lines.{LineView, fresh}
 use Rattle.line.specs.Sizes.{smallest_size, PieceLength}
-use Rattle.paced.specs.Pacing.{paced_view}
-use Rattle.pumping.specs.Pumping.{Pumped}
-use Rattle.pumping.specs.declared.accounts.Account.{Account}
+use Rattle.lines.specs.Pacing.{paced_view}
+use Rattle.pump.specs.Pumping.{Pumped}
+use Rattle.pump.specs.declared.traces.Trace.{Trace}
 use Rattle.pump.specs.declared.choices.Choice.{Choice}
 use Rattle.pump.specs.declared.choices.Layers.{Layers}
 use Rattle.pump.specs.declared.choices.Layers.TheVariants as L
@@ -38,7 +38,7 @@ LayersAllowed (L.Twice outer inner) = PieceLength outer × PieceLength inner
 abbrev pub Allowed : Choice → Type 0
 Allowed choice = PieceLength choice.piece × LayersAllowed choice.layers
 
--- The numbers are allowed, and the account is that of a whole run with the chosen line.
-abbrev pub Passes : Choice → List ℕ → Account → Type 0
-Passes choice input account =
-    Allowed choice × ((w : LineView) × Pumped (chosen_view choice.layers choice.kind) input choice.piece account w)
+-- The numbers are allowed, and the trace is that of a whole run with the chosen line.
+abbrev pub Passes : Choice → List ℕ → Trace → Type 0
+Passes choice input trace =
+    Allowed choice × ((w : LineView) × Pumped (chosen_view choice.layers choice.kind) input choice.piece trace w)

@@ -5,14 +5,20 @@
 //! the smallest full size that a line may have.
 #![tactic(auto)]
 
+mod traces;
 mod choices;
 mod passing;
+mod pieces;
+mod pumpers;
+mod runs;
+mod tallies;
 mod words;
 
+use crate::traces::Trace;
+use crate::tallies::{Tally, tally_of};
 use anyhow::anyhow;
 use choices::{Choice, choose};
 use passing::pass;
-use pumping::{Account, Tally, tally_of};
 use std::env;
 use std::io::Read;
 use words::{Word, word_of};
@@ -28,20 +34,20 @@ fn chosen(rt: &HostRuntime) -> anyhow::Result<Choice> {
     ))
 }
 
-/// Prints the deeds, the counts, and whether what came out is what went in.
-fn print_account(rt: &HostRuntime, input: &[u8], account: &Account) -> anyhow::Result<()> {
-    for deed in account.deeds.iter() {
-        println!(rt; "{deed}")?;
+/// Prints the events, the counts, and whether what came out is what went in.
+fn print_trace(rt: &HostRuntime, input: &[u8], trace: &Trace) -> anyhow::Result<()> {
+    for event in trace.events.iter() {
+        println!(rt; "{event}")?;
     }
     let Tally {
         puts,
         refusals,
         takes,
-    } = tally_of(account.deeds.as_slice());
+    } = tally_of(trace.events.as_slice());
     println!(rt; "{puts} puts, {refusals} refused, {takes} takes")?;
     let sent = input.len();
-    let came = account.out.len();
-    let verdict = if account.out.as_slice() == input {
+    let came = trace.out.len();
+    let verdict = if trace.out.as_slice() == input {
         "the same"
     } else {
         "not the same"
@@ -55,7 +61,7 @@ fn go(rt: &HostRuntime) -> anyhow::Result<()> {
     let mut input = Vec::new(rt.alloc());
     rt.stdin().read_to_end(&mut input)?;
     match pass(rt.alloc(), choice, input.as_slice()) {
-        Ok(account) => print_account(rt, input.as_slice(), &account),
+        Ok(trace) => print_trace(rt, input.as_slice(), &trace),
         Err(refusal) => {
             let number = refusal.number();
             println!(rt; "refused, {number} {refusal}")?;

@@ -1,20 +1,19 @@
 //! The chosen line, and the input through it.
 ghost use Rattle.std.specs.Prelude.{◌≡◌, IfOk, IfErr, MatchResult};
-ghost use Rattle.fault.specs.declared.refusals.Refusal.TheVariants as R;
+ghost use Rattle.wire.specs.declared.refusals.Refusal.TheVariants as R;
 ghost use Rattle.line.specs.Lines.{LineView};
-ghost use Rattle.pumping.specs.Pumping.{Pumped};
+ghost use Rattle.pump.specs.Pumping.{Pumped};
 ghost use Rattle.pump.specs.Passing.{made_view, PaceAllowed, Allowed, Passes};
 
+use crate::traces::Trace;
 use crate::choices::{Choice, Layers};
+use crate::pieces::PieceSize;
+use crate::runs::run;
 use crate::words::Kind;
-use any_line::AnyLine;
-use fault::Refusal;
 use line::{Line, SMALLEST_SIZE};
-use paced::Paced;
-use pumping::{Account, PieceSize, run};
-use ring::Ring;
+use lines::{AnyLine, Paced, Ring, Straight};
 use std::alloc::Global;
-use straight::Straight;
+use wire::Refusal;
 
 /// An empty line of the kind, with a pacing layer over it or none.
 fn make_line(heap: Global, kind: Kind, pace: Option<usize>) -> Result<AnyLine, Refusal>
@@ -39,15 +38,15 @@ fn through<L: Line + Drop>(
     mut line: L,
     input: &[u8],
     piece: PieceSize,
-) -> Result<Account, Refusal>
-    ensures { MatchResult result (λ account. (w : LineView) × Pumped (L.Line.view line) input.now piece.bytes account w) (λ e. e ≡ R.OutOfMemory) }
+) -> Result<Trace, Refusal>
+    ensures { MatchResult result (λ trace. (w : LineView) × Pumped (L.Line.view line) input.now piece.bytes trace w) (λ e. e ≡ R.OutOfMemory) }
 {
     Ok(run(heap, &mut line, input, piece)?)
 }
 
-/// Passes the input through the chosen line, and gives the account of it.
-pub fn pass(heap: Global, choice: Choice, input: &[u8]) -> Result<Account, Refusal>
-    ensures made { IfOk result (λ account. Passes choice input.now account) }
+/// Passes the input through the chosen line, and gives the trace of it.
+pub fn pass(heap: Global, choice: Choice, input: &[u8]) -> Result<Trace, Refusal>
+    ensures made { IfOk result (λ trace. Passes choice input.now trace) }
     ensures refused { IfErr result (λ e. (e ≡ R.SizeOutOfRange → Allowed choice → ⊥)) }
 {
     let piece = PieceSize::new(choice.piece)?;

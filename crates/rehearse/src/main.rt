@@ -2,30 +2,30 @@
 //! answered. The files that they name stand in the folder, or where the program runs.
 #![tactic(auto)]
 
-use rehearsing::{Shelf, rehearse};
-use std::io::{BufReader, BufWriter, Write};
+use rehearsal::{Files, rehearse};
 use std::{env, fs, io};
+use std::io::{BufReader, BufWriter, Write};
 
 /// The files of a folder.
 #[derive(Clone, Copy)]
-struct Files<'a> {
+struct Folder<'a> {
     rt: &'a HostRuntime,
     folder: &'a str,
 }
 
-impl Files<'_> {
+impl Folder<'_> {
     // The path of a file.
     fn path(&self, name: &str) -> io::Result<String> {
         Ok(format!(in self.rt.alloc(); "{}/{name}", self.folder)?)
     }
 }
 
-impl Shelf for Files<'_> {
-    fn fetch(&mut self, name: &str) -> io::Result<Vec<u8>> {
+impl Files for Folder<'_> {
+    fn read(&mut self, name: &str) -> io::Result<Vec<u8>> {
         fs::read(self.rt, self.path(name)?)
     }
 
-    fn keep(&mut self, name: &str, bytes: &[u8]) -> io::Result<()> {
+    fn write(&mut self, name: &str, bytes: &[u8]) -> io::Result<()> {
         fs::write(self.rt, self.path(name)?, bytes)
     }
 }
@@ -38,7 +38,7 @@ fn run(rt: &HostRuntime) -> io::Result<()> {
         [_, folder, ..] => folder.as_str(),
         _ => ".",
     };
-    rehearse(rt.alloc(), input, &mut out, &mut Files { rt, folder })?;
+    rehearse(rt.alloc(), input, &mut out, &mut Folder { rt, folder })?;
     out.flush()
 }
 

@@ -4,7 +4,8 @@ use Rattle.std.proofs.Math.Seq.{take-suc}
 use Rattle.std.proofs.lemmas.List.{map-append}
 use Rattle.packet.specs.Values.{Value}
 use Rattle.rules.specs.State.{Pair}
-use Rattle.rules.specs.Rounds.{Call, Answer, Deed, Step}
+use Rattle.rules.specs.declared.answers.Answer.{Answer}
+use Rattle.rules.specs.Rounds.{Call, Effect, Step}
 use Rattle.rules.specs.State as Line
 use Rattle.message_log.specs.Meaning as Log
 use Rattle.rules.specs.SetUp.{Parts, set_up}
@@ -32,7 +33,7 @@ pub keeps_one : {s t u : Pair} {calls : List Call} {answers : List Answer} {call
     Keeps s calls answers t → Step t call (record { answer = answer; wrote = wrote; after = u }) → Keeps s (calls ++ call ∷ []) (answers ++ answer ∷ []) u
 keeps_one {s} {t} {u} {calls} {answers} {call} {answer} wrote k step o v h e =
     let f = k o v h e in
-    let d : Deed = record { answer = answer; wrote = wrote; after = u } in
+    let d : Effect = record { answer = answer; wrote = wrote; after = u } in
     let p : Played v (calls ++ call ∷ []) (answers ++ answer ∷ []) (stepped f.now call d) = one_more f.played call d (subst (λ x. Step x call d) (sym f.stands) step) in
     record { now = stepped f.now call d; stands = refl; played = p; promised = promised o (stepped f.now call d) (played_on h p) }
 
@@ -42,14 +43,13 @@ performed {s} {t} {given} {call} {answer} i wrote rule =
     record { wrote = wrote; step = step; keeps = keeps_one wrote (keeps_none s) step }
 
 -- lists of calls and answers, one longer
-pub keeps_next : {C A : Type 0} (call_of : C → Call) (answer_of : A → Answer) {s t u : Pair} (calls : List C) (i : ℕ) (d : C) (answers more : List A) (a : A) →
-    Keeps s (map call_of (take i calls)) (map answer_of answers) t → i < length calls → more ≡ answers ++ a ∷ [] →
-    Performed t (call_of (get_or calls i d)) (answer_of a) u → Keeps s (map call_of (take (i + 1) calls)) (map answer_of more) u
-keeps_next call_of answer_of {s} {t} {u} calls i d answers more a k l m p =
+pub keeps_next : {C : Type 0} (call_of : C → Call) {s t u : Pair} (calls : List C) (i : ℕ) (d : C) (answers more : List Answer) (a : Answer) →
+    Keeps s (map call_of (take i calls)) answers t → i < length calls → more ≡ answers ++ a ∷ [] →
+    Performed t (call_of (get_or calls i d)) a u → Keeps s (map call_of (take (i + 1) calls)) more u
+keeps_next call_of {s} {t} {u} calls i d answers more a k l m p =
     let f : map call_of (take (i + 1) calls) ≡ map call_of (take i calls) ++ call_of (get_or calls i d) ∷ [] =
     ap (λ n. map call_of (take n calls)) (add-one i) ∙ ap (map call_of) (take-suc calls i d l) ∙ map-append call_of (take i calls) (get_or calls i d ∷ []) in
-    let g : map answer_of more ≡ map answer_of answers ++ answer_of a ∷ [] = ap (map answer_of) m ∙ map-append answer_of answers (a ∷ []) in
-    subst (λ x. Keeps s x (map answer_of more) u) (sym f) (subst (λ x. Keeps s (map call_of (take i calls) ++ call_of (get_or calls i d) ∷ []) x u) (sym g) (keeps_one p.wrote k p.step))
+    subst (λ x. Keeps s x more u) (sym f) (subst (λ x. Keeps s (map call_of (take i calls) ++ call_of (get_or calls i d) ∷ []) x u) (sym m) (keeps_one p.wrote k p.step))
 
 -- what set-up grants has a history of its own
 pub scripted : (g : Parts) (s t : Pair) (calls : List Call) (answers : List Answer) → Log.Sound g.hub_log → Log.Sound g.seat_log → Line.Steady g.up → Line.Steady g.down → set_up g ≡ Ok s → Keeps s calls answers t → Scripted g calls answers t

@@ -1,8 +1,6 @@
--- Calls and answers of a program, in the words of the rules.
+-- Calls of a program, in the words of the rules.
 use Rattle.relay.specs.declared.commands.Call.{Call}
 use Rattle.relay.specs.declared.commands.Call.TheVariants as C
-use Rattle.relay.specs.declared.commands.Answer.{Answer}
-use Rattle.relay.specs.declared.commands.Answer.TheVariants as A
 use Rattle.rules.specs.Rounds as R
 
 abbrev pub call_of : Call → R.Call
@@ -20,9 +18,3 @@ call_of C.HubSend = R.HubSend
 call_of C.SeatSend = R.SeatSend
 call_of C.Tick = R.Tick
 call_of C.Round = R.Round
-
-abbrev pub answer_of : Answer → R.Answer
-answer_of (A.Did answer) = R.Did answer
-answer_of (A.Took answer) = R.Took answer
-answer_of (A.Put answer) = R.Put answer
-answer_of (A.Went answer) = R.Went answer

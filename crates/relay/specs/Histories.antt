@@ -2,23 +2,24 @@
 use Rattle.std.specs.Prelude.{◌≡◌, true, List, [], ◌∷◌, ◌++◌, Option}
 use Rattle.packet.specs.Values.{Value}
 use Rattle.rules.specs.State.{Pair}
-use Rattle.rules.specs.Rounds.{Call, Answer, Deed, Step}
-use Rattle.promises.specs.Runs.{Begins, World, stepped, Run, History}
+use Rattle.rules.specs.declared.answers.Answer.{Answer}
+use Rattle.rules.specs.Rounds.{Call, Effect, Step}
+use Rattle.promises.specs.Runs.{IsPrefix, World, stepped, Run, History}
 use Rattle.promises.specs.Promises.{Holds}
 
 -- from one point of a run to a later one, just these calls were made, and they answered this
 pub data Played (start : World) : List Call → List Answer → World → Type 0 where
   none : Played start [] [] start
-  one_more : {calls : List Call} {answers : List Answer} {w : World} → Played start calls answers w → (call : Call) (d : Deed) → Step w.pair call d →
+  one_more : {calls : List Call} {answers : List Answer} {w : World} → Played start calls answers w → (call : Call) (d : Effect) → Step w.pair call d →
       Played start (calls ++ call ∷ []) (answers ++ d.answer ∷ []) (stepped w call d)
 
 -- What the promises say at a point of a run.
 pub record Promised (o : Pair) (w : World) : Type 0 where
   pub history : History Step o w
   -- the seat's log is a beginning of what the book has for the session that it bears
-  pub never_wrong : Begins w.pair.held.messages (w.book.lists w.pair.held.session)
+  pub never_wrong : IsPrefix w.pair.held.messages (w.book.lists w.pair.held.session)
   -- it has all that it held at any earlier point, if it bore this session there
-  pub never_shorter : (v : World) → History Step o v → Run Step v w → w.pair.held.session ≡ v.pair.held.session → Begins v.pair.held.messages w.pair.held.messages
+  pub never_shorter : (v : World) → History Step o v → Run Step v w → w.pair.held.session ≡ v.pair.held.session → IsPrefix v.pair.held.messages w.pair.held.messages
   -- a seat that reports itself in step holds all that the note has
   pub in_step_is_true : w.pair.seat.in_step ≡ true → Holds w.note w.pair.held
 

@@ -1,11 +1,12 @@
 -- Bringing a seat level, in the words of the promises.
 use Rattle.std.specs.Prelude.{◌≡◌, true, List, ◌∷◌, Ok, Err, Result, replicate}
-use Rattle.fault.specs.declared.refusals.Refusal.{Refusal}
-use Rattle.fault.specs.declared.refusals.Refusal.TheVariants.{ShortBuffer}
+use Rattle.wire.specs.declared.refusals.Refusal.{Refusal}
+use Rattle.wire.specs.declared.refusals.Refusal.TheVariants.{ShortBuffer}
 use Rattle.rules.specs.declared.phases.How.{How}
 use Rattle.rules.specs.declared.phases.How.TheVariants as H
 use Rattle.rules.specs.State.{Pair}
-use Rattle.rules.specs.Rounds.{Answer, Connect, Round, lent_short, Step}
+use Rattle.rules.specs.declared.answers.Answer.{Answer}
+use Rattle.rules.specs.Rounds.{Connect, Round, lent_short, Step}
 use Rattle.promises.specs.Runs.{World, History}
 use Rattle.promises.specs.Promises.{Able, Level, rounds_needed}
 use Rattle.relay.specs.Histories.{Followed}

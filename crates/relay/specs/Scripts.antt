@@ -1,13 +1,14 @@
 -- Calls on a pair that was set up for them.
 use Rattle.std.specs.Prelude.{◌≡◌, ◌⊎◌, ℕ, List, Ok, Err}
-use Rattle.fault.specs.declared.refusals.Refusal.{Refusal}
-use Rattle.fault.specs.declared.refusals.Refusal.TheVariants.{OutOfMemory}
+use Rattle.wire.specs.declared.refusals.Refusal.{Refusal}
+use Rattle.wire.specs.declared.refusals.Refusal.TheVariants.{OutOfMemory}
 use Rattle.line.specs.Lines.{LineView}
 use Rattle.message_log.specs.Meaning.{Meaning}
 use Rattle.account.specs.declared.rows.Row.{Row}
 use Rattle.rules.specs.State.{Pair}
 use Rattle.rules.specs.SetUp.{Parts, set_up}
-use Rattle.rules.specs.Rounds.{Call, Answer}
+use Rattle.rules.specs.declared.answers.Answer.{Answer}
+use Rattle.rules.specs.Rounds.{Call}
 use Rattle.promises.specs.Runs.{at_first}
 use Rattle.relay.specs.Histories.{Followed}
 

@@ -1,7 +1,5 @@
-//! Calls on a pair, and what they answer.
-use fault::Refusal;
-use layout::Letter;
-use rules::{How, Received, Report};
+//! Calls on a pair.
+use rules::How;
 
 /// A call on a pair.
 #[derive(Clone, Copy)]
@@ -22,17 +20,4 @@ pub enum Call<'a> {
     SeatSend,
     Tick,
     Round,
-}
-
-/// What a call answered.
-#[derive(Drop)]
-pub enum Answer {
-    /// What a call answered that takes nothing and is no send.
-    Did(Result<(), Refusal>),
-    /// What a receive answered.
-    Took(Result<Received, Refusal>),
-    /// What a send answered: the letter of the packet, if one was due.
-    Put(Result<Option<Letter>, Refusal>),
-    /// What a round answered.
-    Went(Result<Report, Refusal>),
 }

@@ -1,6 +1,6 @@
 //! Bringing a seat level with the hub.
 ghost use Rattle.std.specs.Prelude.{◌≡◌, ◌+◌, ◌-◌, ◌≤◌, length, Ok};
-ghost use Rattle.layout.specs.Limits.{packet_limit};
+ghost use Rattle.wire.specs.Limits.{packet_limit};
 ghost use Rattle.message_log.specs.Meaning.{count};
 ghost use Rattle.rules.specs.Calls.{asked_number};
 ghost use Rattle.rules.specs.Rounds.{Step};
@@ -8,12 +8,11 @@ ghost use Rattle.promises.specs.Runs.{GrantedRounds};
 ghost use Rattle.pair.specs.Meanings.{pair_of};
 ghost use Rattle.relay.specs.Levels.{how_of, Brings};
 
-use fault::Refusal;
-use layout::PACKET_LIMIT;
 use line::SteadyLine;
 use message_log::Log;
 use pair::Pair;
 use rules::How;
+use wire::{PACKET_LIMIT, Refusal};
 
 /// How a seat connects that is to be brought level.
 #[derive(Clone, Copy)]

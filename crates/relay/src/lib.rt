@@ -14,8 +14,9 @@ mod performing;
 mod running;
 mod scripts;
 
-pub use commands::{Answer, Call};
+pub use commands::Call;
 pub use leveling::{Way, bring_level};
 pub use performing::perform;
+pub use rules::Answer;
 pub use running::run;
 pub use scripts::{Played, play};

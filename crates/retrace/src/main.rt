@@ -2,10 +2,10 @@
 //! with status 1 if there is one, or a file could not be read.
 #![tactic(auto)]
 
-use rehearsing::{NoShelf, Retraced, retrace};
+use rehearsal::{NoFiles, Retraced, retrace};
+use std::{env, fs, io};
 use std::io::{BufReader, BufWriter, Write};
 use std::process::ExitCode;
-use std::{env, fs, io};
 
 // What became of a trace, in a line.
 fn show_retraced<W: Write>(out: &mut W, path: &str, retraced: Retraced) -> io::Result<()> {
@@ -32,7 +32,7 @@ fn run(rt: &HostRuntime) -> io::Result<bool> {
         match fs::open(rt, path.as_str()) {
             Ok(file) => {
                 let input = BufReader::new(rt.alloc(), file)?;
-                let retraced = retrace(rt.alloc(), input, &mut out, &mut NoShelf)?;
+                let retraced = retrace(rt.alloc(), input, &mut out, &mut NoFiles)?;
                 show_retraced(&mut out, path.as_str(), retraced)?;
                 same = same && retraced.others == 0;
             }

@@ -1,17 +1,17 @@
 -- What an end does with bytes does not depend on the line that they came from, and leaves that line alone.
 use Rattle.std.proofs.Common.{◌≡◌, ℕ, Bool, true, false, cond, eqb, ltb, List, [], ◌∷◌, ◌++◌, length, Some, None, Ok, Err, Option, Result, refl, ap}
-use Rattle.fault.specs.declared.faults.PacketFault.{PacketFault}
-use Rattle.fault.specs.declared.refusals.Refusal.{Refusal}
-use Rattle.fault.specs.declared.refusals.Refusal.TheVariants.{BadPacket, LogFull}
-use Rattle.layout.specs.declared.letters.Letter.TheVariants as L
-use Rattle.layout.specs.declared.statuses.Status.{Status}
-use Rattle.layout.specs.declared.statuses.Status.TheVariants.{Accepted, UnknownUser, SessionUnavailable, InvalidNumber, WrongVersion, WrongProtocol, AlreadyLoggedIn}
-use Rattle.layout.specs.declared.goodbyes.GoodByeReason.{GoodByeReason}
-use Rattle.layout.specs.declared.goodbyes.GoodByeReason.TheVariants as G
-use Rattle.layout.specs.declared.logouts.LogoutReason.{LogoutReason}
-use Rattle.layout.specs.declared.logouts.LogoutReason.TheVariants as X
+use Rattle.wire.specs.declared.faults.PacketFault.{PacketFault}
+use Rattle.wire.specs.declared.refusals.Refusal.{Refusal}
+use Rattle.wire.specs.declared.refusals.Refusal.TheVariants.{BadPacket, LogFull}
+use Rattle.wire.specs.declared.letters.Letter.TheVariants as L
+use Rattle.wire.specs.declared.statuses.Status.{Status}
+use Rattle.wire.specs.declared.statuses.Status.TheVariants.{Accepted, UnknownUser, SessionUnavailable, InvalidNumber, WrongVersion, WrongProtocol, AlreadyLoggedIn}
+use Rattle.wire.specs.declared.goodbyes.GoodByeReason.{GoodByeReason}
+use Rattle.wire.specs.declared.goodbyes.GoodByeReason.TheVariants as G
+use Rattle.wire.specs.declared.logouts.LogoutReason.{LogoutReason}
+use Rattle.wire.specs.declared.logouts.LogoutReason.TheVariants as X
 use Rattle.packet.specs.Values.{Value, encode, good_bye, logout_request}
-use Rattle.packet.specs.Decoding.{Answer, part, whole}
+use Rattle.packet.specs.Decoding.{Decoded, part, whole}
 use Rattle.line.specs.Lines.{LineView, fits}
 use Rattle.message_log.specs.Calls.{takes}
 use Rattle.account.specs.Logins.{Asked}
@@ -84,7 +84,7 @@ hub_acts_blind p v =
     hub_acts_lem BlindUp (λ f. hub_refused (BadPacket f) G.BadPacket) (λ r s w. refl) (λ r s w. refl) (λ a e s w. refl)
     (λ a s w. ap (λ t. grants (Acted L.LoginRequest) t) (decided_blind _ a s w)) p v
 
-hub_judges_blind : (r : Result Answer PacketFault) (got frame : List ℕ) (w : LineView) (s : Pair) → hub_judges r got frame w s ≡ on_up w (hub_judges r got frame s.up s)
+hub_judges_blind : (r : Result Decoded PacketFault) (got frame : List ℕ) (w : LineView) (s : Pair) → hub_judges r got frame w s ≡ on_up w (hub_judges r got frame s.up s)
 hub_judges_blind (Ok part) got frame w s = refl
 hub_judges_blind (Ok (whole v)) got frame w s = hub_acts_blind s.hub.phase v (hub_took got [] s.up s) w
 hub_judges_blind (Err f) got frame w s = hub_refused (BadPacket f) G.BadPacket (hub_took got [] s.up s) w
@@ -114,7 +114,7 @@ seat_acts_blind p v =
     (along (on_down w) (ltb n (next_number s.held)) _ _ _ _ refl (skips_blind s.seat.fetch s w)))
     (λ s w. completes_blind s.seat.fetch s w) p v
 
-seat_judges_blind : (r : Result Answer PacketFault) (got frame : List ℕ) (w : LineView) (s : Pair) → seat_judges r got frame w s ≡ on_down w (seat_judges r got frame s.down s)
+seat_judges_blind : (r : Result Decoded PacketFault) (got frame : List ℕ) (w : LineView) (s : Pair) → seat_judges r got frame w s ≡ on_down w (seat_judges r got frame s.down s)
 seat_judges_blind (Ok part) got frame w s = refl
 seat_judges_blind (Ok (whole v)) got frame w s = seat_acts_blind s.seat.phase v (seat_took got [] s.down s) w
 seat_judges_blind (Err f) got frame w s = seat_refused (BadPacket f) X.BadPacket (seat_took got [] s.down s) w

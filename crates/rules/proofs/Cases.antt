@@ -1,11 +1,11 @@
 -- What the acts of the two ends come to: a fact of all of them follows from the fact of a few.
 use Rattle.std.proofs.Common.{ℕ, min, Bool, true, false, cond, eqb, ltb, leb, List, length}
-use Rattle.fault.specs.declared.faults.Field.TheVariants as Field
-use Rattle.fault.specs.declared.faults.PacketFault.{PacketFault}
-use Rattle.fault.specs.declared.faults.PacketFault.TheVariants.{OutOfPlace, WrongContent}
-use Rattle.layout.specs.declared.letters.Letter.TheVariants as L
-use Rattle.layout.specs.declared.statuses.Status.{Status}
-use Rattle.layout.specs.declared.statuses.Status.TheVariants.{Accepted, UnknownUser, SessionUnavailable, InvalidNumber, WrongVersion, WrongProtocol, AlreadyLoggedIn}
+use Rattle.wire.specs.declared.faults.Field.TheVariants as Field
+use Rattle.wire.specs.declared.faults.PacketFault.{PacketFault}
+use Rattle.wire.specs.declared.faults.PacketFault.TheVariants.{OutOfPlace, WrongContent}
+use Rattle.wire.specs.declared.letters.Letter.TheVariants as L
+use Rattle.wire.specs.declared.statuses.Status.{Status}
+use Rattle.wire.specs.declared.statuses.Status.TheVariants.{Accepted, UnknownUser, SessionUnavailable, InvalidNumber, WrongVersion, WrongProtocol, AlreadyLoggedIn}
 use Rattle.packet.specs.Values.{Value, login_request, login_response, sequenced, unsequenced, synchronization_complete, retransmission_request, logout_request, good_bye, end_of_session, hub_heartbeat, seat_heartbeat, test}
 use Rattle.message_log.specs.Meaning.{count}
 use Rattle.account.specs.Logins.{Asked}

@@ -1,13 +1,13 @@
 -- Two rounds from one pair that differ in more than rooms.
 use Rattle.std.proofs.Common.{◌≡◌, false, [], ◌∷◌, length, None, refl, ap, arith}
-use Rattle.layout.specs.Limits.{packet_limit}
+use Rattle.wire.specs.Limits.{packet_limit}
 use Rattle.packet.specs.Values.{encode}
 use Rattle.packet.specs.Decoding.{decode}
 use Rattle.rules.specs.declared.phases.HubPhase.TheVariants.{Serving}
 use Rattle.rules.specs.declared.phases.SeatPhase.TheVariants.{Live}
 use Rattle.rules.specs.State.{Pair}
 use Rattle.rules.specs.Changes.{with_up, with_seat}
-use Rattle.rules.specs.Rounds.{hub_deaf, hub_hears_bytes, seat_hears_bytes, ends, more, Round, Deed, Step, rounds}
+use Rattle.rules.specs.Rounds.{hub_deaf, hub_hears_bytes, seat_hears_bytes, ends, more, Round, Effect, Step, rounds}
 use Rattle.rules.specs.Roomiest.{roomiest}
 use Rattle.rules.specs.Laws.{Lined, RoundsDiffer}
 use Rattle.rules.specs.Examples.{pair, log}
@@ -29,7 +29,7 @@ tight_lined =
     }
 
 -- the takes leave no room
-stingy : (d : Deed) × Step tight Round d × (length d.after.up.waiting ≡ 1)
+stingy : (d : Effect) × Step tight Round d × (length d.after.up.waiting ≡ 1)
 unfolding encode decode
 stingy = (
   _,

@@ -1,15 +1,15 @@
 -- A frame that is a part of a packet, in its buffer.
 use Rattle.std.proofs.Common.{◌≡◌, ℕ, ◌+◌, ◌-◌, ◌<◌, ◌≤◌, min, Bool, true, false, ltb, List, [], length, get_or, take, drop, Ok, Err, Result, sym, refl, ◌∙◌, ⊎_elim, arith, length-append, length-drop, length-take}
 use Rattle.std.proofs.lemmas.Bool.{cases_lt, cond-true, cond-false, lt-ltb, le-ltb, ltb-true}
-use Rattle.fault.specs.declared.faults.PacketFault.{PacketFault}
-use Rattle.fault.specs.declared.faults.PacketFault.TheVariants.{LengthZero, LengthOverLimit, UnknownLetter, OutOfPlace, WrongLength, WrongContent}
-use Rattle.layout.specs.Limits.{length_limit, packet_limit}
-use Rattle.layout.proofs.Coded.{cut}
-use Rattle.packet.specs.Decoding.{Answer, part, whole, head_number, counted, bodied, opened, wholly, decode}
+use Rattle.wire.specs.declared.faults.PacketFault.{PacketFault}
+use Rattle.wire.specs.declared.faults.PacketFault.TheVariants.{LengthZero, LengthOverLimit, UnknownLetter, OutOfPlace, WrongLength, WrongContent}
+use Rattle.wire.specs.Limits.{length_limit, packet_limit}
+use Rattle.wire.proofs.Coded.{cut}
+use Rattle.packet.specs.Decoding.{Decoded, part, whole, head_number, counted, bodied, opened, wholly, decode}
 use Rattle.packet.proofs.Forth.{counted_forth, took}
 use Rattle.packet.proofs.Fronts.{decode_short, decode_head}
 use Rattle.line.specs.Lines.{LineView, handed}
-use Rattle.memory.specs.Memory.{laid}
+use Rattle.wire.specs.Overlay.{laid}
 use Rattle.rules.specs.Frames.{lack, given, placed}
 use Rattle.rules.specs.Laws.{PartsLack}
 
@@ -32,7 +32,7 @@ parts_lack f e =
     (cases_lt (length f) 2)
 
 -- an end that is handed more of a part sees a part where a reader sees one
-pub placed_part : (here : Bool) (r : Result Answer PacketFault) → placed here r ≡ Ok part → r ≡ Ok part
+pub placed_part : (here : Bool) (r : Result Decoded PacketFault) → placed here r ≡ Ok part → r ≡ Ok part
 placed_part here (Ok part) e = refl
 placed_part true (Ok (whole v)) e = (cc)
 placed_part false (Ok (whole v)) e = (cc)

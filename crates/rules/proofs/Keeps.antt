@@ -1,21 +1,21 @@
 -- Steady lines stay sound and buffers last, from call to call.
 use Rattle.std.proofs.Common.{◌≡◌, ℕ, ◌+◌, ◌≤◌, Bool, true, false, cond, ◌&&◌, eqb, ltb, leb, List, [], ◌∷◌, ◌++◌, length, get_or, drop, Some, None, Ok, Err, Option, Result, sym, refl, ap, subst, arith, length-append, length-drop}
 use Rattle.std.proofs.lemmas.Bool.{cond_both, ltb-false}
-use Rattle.fault.specs.declared.faults.Fault.{Fault}
-use Rattle.fault.specs.declared.faults.PacketFault.{PacketFault}
-use Rattle.fault.specs.declared.refusals.Refusal.{Refusal}
-use Rattle.fault.specs.declared.refusals.Refusal.TheVariants.{MessageTooLong, LineFull, WrongPhase, SessionFinished, HubBusy, LastSession, NoSession, NothingToFetch}
-use Rattle.layout.specs.Limits.{message_limit}
-use Rattle.layout.specs.declared.letters.Letter.{Letter}
-use Rattle.layout.specs.declared.letters.Letter.TheVariants as L
-use Rattle.layout.specs.declared.statuses.Status.{Status}
-use Rattle.layout.specs.declared.statuses.Status.TheVariants.{Accepted, UnknownUser, SessionUnavailable, InvalidNumber, WrongVersion, WrongProtocol, AlreadyLoggedIn}
-use Rattle.layout.specs.declared.goodbyes.GoodByeReason.{GoodByeReason}
-use Rattle.layout.specs.declared.goodbyes.GoodByeReason.TheVariants as G
-use Rattle.layout.specs.declared.logouts.LogoutReason.{LogoutReason}
-use Rattle.layout.specs.declared.logouts.LogoutReason.TheVariants as X
+use Rattle.wire.specs.declared.faults.Fault.{Fault}
+use Rattle.wire.specs.declared.faults.PacketFault.{PacketFault}
+use Rattle.wire.specs.declared.refusals.Refusal.{Refusal}
+use Rattle.wire.specs.declared.refusals.Refusal.TheVariants.{MessageTooLong, LineFull, WrongPhase, SessionFinished, HubBusy, LastSession, NoSession, NothingToFetch}
+use Rattle.wire.specs.Limits.{message_limit}
+use Rattle.wire.specs.declared.letters.Letter.{Letter}
+use Rattle.wire.specs.declared.letters.Letter.TheVariants as L
+use Rattle.wire.specs.declared.statuses.Status.{Status}
+use Rattle.wire.specs.declared.statuses.Status.TheVariants.{Accepted, UnknownUser, SessionUnavailable, InvalidNumber, WrongVersion, WrongProtocol, AlreadyLoggedIn}
+use Rattle.wire.specs.declared.goodbyes.GoodByeReason.{GoodByeReason}
+use Rattle.wire.specs.declared.goodbyes.GoodByeReason.TheVariants as G
+use Rattle.wire.specs.declared.logouts.LogoutReason.{LogoutReason}
+use Rattle.wire.specs.declared.logouts.LogoutReason.TheVariants as X
 use Rattle.packet.specs.Values.{Value, encode, sequenced, unsequenced, synchronization_complete, retransmission_request, good_bye, logout_request, end_of_session, hub_heartbeat, seat_heartbeat}
-use Rattle.packet.specs.Decoding.{Answer, part, whole, decode}
+use Rattle.packet.specs.Decoding.{Decoded, part, whole, decode}
 use Rattle.packet.proofs.Fronts.{decode_short}
 use Rattle.packet.proofs.Back.{length_encode}
 use Rattle.line.specs.Lines.{LineView, joined, cleared, fits}
@@ -37,7 +37,7 @@ use Rattle.rules.specs.Frames.{lack, given, left, Free, among, judged}
 use Rattle.rules.specs.Hub.{hub_gone, hub_letters, decided, admitted, hub_acts, hub_judges, hub_hears, Due, due, none_due, beat_after, hub_due, sent_all, Sending, is_shut, hub_posts, hub_sends}
 use Rattle.rules.specs.Seat.{seat_gone, seat_letters, is_apart, next_number, seat_keeps, seat_skips, seat_complete, seat_acts, seat_judges, seat_hears, seat_due, seat_requested, live_due, seat_posts, seat_sends}
 use Rattle.rules.specs.Calls.{done, asked, asking, login_of, connect, connected, publishes, busy, last_session, is_serving, is_live, tick, hub_timed, counted, waiting_limit, silence_limit}
-use Rattle.rules.specs.Rounds.{HubReceives, hub_deaf, hub_hears_bytes, SeatReceives, seat_deaf, seat_hears_bytes, Drains, ends, more, Rounds, Call, Deed, Step, short_buffer, connects, cuts, publishes as publishing, finishes, rolls, tells, says, leaves, hub_receives, seat_receives, hub_sends_one, seat_sends_one, ticks, rounds}
+use Rattle.rules.specs.Rounds.{HubReceives, hub_deaf, hub_hears_bytes, SeatReceives, seat_deaf, seat_hears_bytes, Drains, ends, more, Rounds, Call, Effect, Step, short_buffer, connects, cuts, publishes as publishing, finishes, rolls, tells, says, leaves, hub_receives, seat_receives, hub_sends_one, seat_sends_one, ticks, rounds}
 use Rattle.rules.specs.Laws.{LinesStaySound, BuffersLast, FramesStayParts, FrameBuffersKeep}
 use Rattle.rules.proofs.Cases.{Act, hub_acts_lem, seat_acts_lem}
 use Rattle.rules.proofs.Frames.{Filled, filled_same, filled_none, filled_trans, filled_laid, placed_part, given_short}
@@ -181,7 +181,7 @@ seat_took_keeps got frame down s h l e =
 no_frame : decode [] ≡ Ok part
 no_frame = decode_short [] (omega arith)
 
-hub_judges_keep : (r : Result Answer PacketFault) (got frame : List ℕ) (up : LineView) (s : Pair) → (Steady s.up → Steady up) → length got ≤ lack s.hub.frame → (r ≡ Ok part → decode frame ≡ Ok part) → Keeps s (hub_judges r got frame up s).after
+hub_judges_keep : (r : Result Decoded PacketFault) (got frame : List ℕ) (up : LineView) (s : Pair) → (Steady s.up → Steady up) → length got ≤ lack s.hub.frame → (r ≡ Ok part → decode frame ≡ Ok part) → Keeps s (hub_judges r got frame up s).after
 hub_judges_keep (Ok part) got frame up s h l e = hub_took_keeps got frame up s h l (e refl)
 hub_judges_keep (Ok (whole v)) got frame up s h l e = keeps_trans (hub_took_keeps got [] up s h l no_frame) (hub_acts_keep s.hub.phase v (hub_took got [] up s))
 hub_judges_keep (Err f) got frame up s h l e = keeps_trans (hub_took_keeps got [] up s h l no_frame) (hub_gone_keeps _ (hub_took got [] up s))
@@ -192,7 +192,7 @@ hub_hears_keep (b ∷ bs) up s h l =
     let frame : List ℕ = s.hub.frame ++ (b ∷ bs) in
     hub_judges_keep (judged (hub_letters s.hub.phase) frame) (b ∷ bs) frame up s h l (λ e. placed_part (among (hub_letters s.hub.phase) (get_or frame 2 0)) (decode frame) e)
 
-seat_judges_keep : (r : Result Answer PacketFault) (got frame : List ℕ) (down : LineView) (s : Pair) → (Steady s.down → Steady down) → length got ≤ lack s.seat.frame → (r ≡ Ok part → decode frame ≡ Ok part) → Keeps s (seat_judges r got frame down s).after
+seat_judges_keep : (r : Result Decoded PacketFault) (got frame : List ℕ) (down : LineView) (s : Pair) → (Steady s.down → Steady down) → length got ≤ lack s.seat.frame → (r ≡ Ok part → decode frame ≡ Ok part) → Keeps s (seat_judges r got frame down s).after
 seat_judges_keep (Ok part) got frame down s h l e = seat_took_keeps got frame down s h l (e refl)
 seat_judges_keep (Ok (whole v)) got frame down s h l e = keeps_trans (seat_took_keeps got [] down s h l no_frame) (seat_acts_keep s.seat.phase v (seat_took got [] down s))
 seat_judges_keep (Err f) got frame down s h l e = keeps_trans (seat_took_keeps got [] down s h l no_frame) (seat_gone_keeps _ (seat_took got [] down s))
@@ -337,7 +337,7 @@ round_keeps s report w t r =
     (keeps_trans (hub_sends_keep r.heard)
     (keeps_trans (drains_keep SeatReceives seat_receives_keep _ _ _ _ r.seat_drains) (seat_sends_keep r.taken))))
 
-pub step_keeps : (s : Pair) (c : Call) (d : Deed) → Step s c d → Keeps s d.after
+pub step_keeps : (s : Pair) (c : Call) (d : Effect) → Step s c d → Keeps s d.after
 step_keeps s _ _ (short_buffer c e) = keeps_same s
 step_keeps s _ _ (connects how e) = connect_keeps how s
 step_keeps s _ _ cuts = wiped_keeps s

@@ -1,8 +1,8 @@
 -- Nothing but the rooms after takes is free.
 use Rattle.std.proofs.Common.{◌≡◌, ℕ, ◌+◌, true, false, List, [], ◌++◌, None, Ok, Option, sym, refl, ap, ◌∙◌, subst, append_assoc}
 use Rattle.std.proofs.lemmas.List.{append-nil}
-use Rattle.fault.specs.declared.faults.Fault.{Fault}
-use Rattle.fault.specs.declared.refusals.Refusal.TheVariants.{ShortBuffer}
+use Rattle.wire.specs.declared.faults.Fault.{Fault}
+use Rattle.wire.specs.declared.refusals.Refusal.TheVariants.{ShortBuffer}
 use Rattle.packet.specs.Values.{Value}
 use Rattle.rules.specs.declared.answers.Received.{Received}
 use Rattle.rules.specs.declared.answers.Heard.{Heard}
@@ -12,7 +12,8 @@ use Rattle.rules.specs.Frames.{lack, given, left}
 use Rattle.rules.specs.Hub.{hub_hears, hub_sends}
 use Rattle.rules.specs.Seat.{seat_hears, seat_sends}
 use Rattle.rules.specs.Calls.{done, connect, cut, publish, finish, roll, tell, say, leave, tick}
-use Rattle.rules.specs.Rounds.{HubReceives, hub_deaf, hub_hears_bytes, SeatReceives, seat_deaf, seat_hears_bytes, going, Drains, ends, more, Rounds, Call, Connect, Cut, Publish, Finish, Roll, Tell, Say, Leave, HubReceive, SeatReceive, HubSend, SeatSend, Tick, Round, Took, Put, Went, refusal, lent_short, Deed, did, took, Step, short_buffer, connects, cuts, publishes, finishes, rolls, tells, says, leaves, hub_receives, seat_receives, hub_sends_one, seat_sends_one, ticks, rounds}
+use Rattle.rules.specs.declared.answers.Answer.TheVariants as Answer
+use Rattle.rules.specs.Rounds.{HubReceives, hub_deaf, hub_hears_bytes, SeatReceives, seat_deaf, seat_hears_bytes, going, Drains, ends, more, Rounds, Call, Connect, Cut, Publish, Finish, Roll, Tell, Say, Leave, HubReceive, SeatReceive, HubSend, SeatSend, Tick, Round, refusal, lent_short, Effect, did, took, Step, short_buffer, connects, cuts, publishes, finishes, rolls, tells, says, leaves, hub_receives, seat_receives, hub_sends_one, seat_sends_one, ticks, rounds}
 use Rattle.rules.specs.Laws.{roomless, Alike, OneOutcome, hub_gave, seat_gave, drains_gave, gave, OnlyRoomsFree}
 use Rattle.rules.proofs.Blind.{hub_hears_blind, seat_hears_blind}
 
@@ -107,7 +108,7 @@ rounds_same s report w t x report' w' t' y q =
     heard a b = cc
 
 -- a call to which no short buffer is lent: what came of it, and the rooms that it left
-abbrev WentSo : Pair → Call → Deed → List ℕ → Type 0
+abbrev WentSo : Pair → Call → Effect → List ℕ → Type 0
 WentSo s (Connect how) d gs = d ≡ did (connect how s)
 WentSo s Cut d gs = d ≡ did (done (cut s))
 WentSo s (Publish m) d gs = d ≡ did (publish m s)
@@ -118,18 +119,18 @@ WentSo s (Say m) d gs = d ≡ did (say m s)
 WentSo s Leave d gs = d ≡ did (leave s)
 WentSo s HubReceive d gs = (o : Outcome Received) × (x : HubReceives s o) × (d ≡ took o) × (gs ≡ hub_gave s o x)
 WentSo s SeatReceive d gs = (o : Outcome Received) × (x : SeatReceives s o) × (d ≡ took o) × (gs ≡ seat_gave s o x)
-WentSo s HubSend d gs = d ≡ record { answer = Put (hub_sends s).answer; wrote = (hub_sends s).wrote; after = (hub_sends s).after }
-WentSo s SeatSend d gs = d ≡ record { answer = Put (seat_sends s).answer; wrote = None; after = (seat_sends s).after }
+WentSo s HubSend d gs = d ≡ record { answer = Answer.Sent (hub_sends s).answer; wrote = (hub_sends s).wrote; after = (hub_sends s).after }
+WentSo s SeatSend d gs = d ≡ record { answer = Answer.Sent (seat_sends s).answer; wrote = None; after = (seat_sends s).after }
 WentSo s Tick d gs = d ≡ did (done (tick s))
 WentSo s Round d gs =
-    (report : Report) × (w : Option Value) × (t : Pair) × (x : Rounds s report w t) × (d ≡ record { answer = Went (Ok report); wrote = w; after = t })
+    (report : Report) × (w : Option Value) × (t : Pair) × (x : Rounds s report w t) × (d ≡ record { answer = Answer.Round (Ok report); wrote = w; after = t })
     × (gs ≡ drains_gave hub_gave x.hub_drains ++ drains_gave seat_gave x.seat_drains)
 
-data Sorted (s : Pair) (c : Call) (d : Deed) (gs : List ℕ) : Type 0 where
+data Sorted (s : Pair) (c : Call) (d : Effect) (gs : List ℕ) : Type 0 where
   stopped : lent_short c s ≡ true → d ≡ record { answer = refusal c ShortBuffer; wrote = None; after = s } → Sorted s c d gs
   went : lent_short c s ≡ false → WentSo s c d gs → Sorted s c d gs
 
-sorted : (s : Pair) (c : Call) (d : Deed) (x : Step s c d) → Sorted s c d (gave x)
+sorted : (s : Pair) (c : Call) (d : Effect) (x : Step s c d) → Sorted s c d (gave x)
 sorted s _ _ (short_buffer c e) = stopped e refl
 sorted s _ _ (connects how e) = went e refl
 sorted s _ _ cuts = went refl refl
@@ -146,22 +147,22 @@ sorted s _ _ (seat_sends_one e) = went e refl
 sorted s _ _ (ticks e) = went e refl
 sorted s _ _ (rounds report w t e r) = went e (report, w, t, r, refl, refl)
 
--- what is to be shown of two deeds of one call
-pub record Agree (c : Call) (d e : Deed) (gs hs : List ℕ) : Type 0 where
+-- what is to be shown of two effects of one call
+pub record Agree (c : Call) (d e : Effect) (gs hs : List ℕ) : Type 0 where
   pub alike : (c ≡ Round → ⊥) → Alike d e
   pub same : gs ≡ hs → d ≡ e
 
-agree_same : {c : Call} {d e : Deed} {gs hs : List ℕ} → d ≡ e → Agree c d e gs hs
+agree_same : {c : Call} {d e : Effect} {gs hs : List ℕ} → d ≡ e → Agree c d e gs hs
 agree_same q = record { alike = λ n. record { answer = ap (λ d. d.answer) q; wrote = ap (λ d. d.wrote) q; after = ap (λ d. roomless d.after) q }; same = λ g. q }
 
-agree_close : {c : Call} {d e : Deed} {gs hs : List ℕ} (o p : Outcome Received) → Close o p → (gs ≡ hs → o ≡ p) → d ≡ took o → e ≡ took p → Agree c d e gs hs
+agree_close : {c : Call} {d e : Effect} {gs hs : List ℕ} (o p : Outcome Received) → Close o p → (gs ≡ hs → o ≡ p) → d ≡ took o → e ≡ took p → Agree c d e gs hs
 agree_close o p k h x y =
     record {
-      alike = λ n. record { answer = ap (λ d. d.answer) x ∙ ap Took k.answer ∙ sym (ap (λ d. d.answer) y); wrote = ap (λ d. d.wrote) x ∙ sym (ap (λ d. d.wrote) y); after = ap (λ d. roomless d.after) x ∙ k.after ∙ sym (ap (λ d. roomless d.after) y) };
+      alike = λ n. record { answer = ap (λ d. d.answer) x ∙ ap Answer.Received k.answer ∙ sym (ap (λ d. d.answer) y); wrote = ap (λ d. d.wrote) x ∙ sym (ap (λ d. d.wrote) y); after = ap (λ d. roomless d.after) x ∙ k.after ∙ sym (ap (λ d. roomless d.after) y) };
       same = λ g. x ∙ ap took (h g) ∙ sym y;
     }
 
-went_agree : (s : Pair) (c : Call) (d e : Deed) (gs hs : List ℕ) → WentSo s c d gs → WentSo s c e hs → Agree c d e gs hs
+went_agree : (s : Pair) (c : Call) (d e : Effect) (gs hs : List ℕ) → WentSo s c d gs → WentSo s c e hs → Agree c d e gs hs
 went_agree s (Connect how) d e gs hs x y = agree_same (x ∙ sym y)
 went_agree s Cut d e gs hs x y = agree_same (x ∙ sym y)
 went_agree s (Publish m) d e gs hs x y = agree_same (x ∙ sym y)
@@ -180,13 +181,13 @@ went_agree s Tick d e gs hs x y = agree_same (x ∙ sym y)
 went_agree s Round d e gs hs (report, w, t, a, x, u) (report', w', t', b, y, v) =
     record {
       alike = λ n. absurd (n refl);
-      same = λ g. let z = rounds_same s report w t a report' w' t' b (sym u ∙ g ∙ v) in x ∙ deed z.0 z.1 z.2 ∙ sym y;
+      same = λ g. let z = rounds_same s report w t a report' w' t' b (sym u ∙ g ∙ v) in x ∙ effect z.0 z.1 z.2 ∙ sym y;
     }
   where
-    deed : {r r' : Report} {w w' : Option Value} {t t' : Pair} → r ≡ r' → w ≡ w' → t ≡ t' → ◌≡◌ {A = Deed} (record { answer = Went (Ok r); wrote = w; after = t }) (record { answer = Went (Ok r'); wrote = w'; after = t' })
-    deed a b c = cc
+    effect : {r r' : Report} {w w' : Option Value} {t t' : Pair} → r ≡ r' → w ≡ w' → t ≡ t' → ◌≡◌ {A = Effect} (record { answer = Answer.Round (Ok r); wrote = w; after = t }) (record { answer = Answer.Round (Ok r'); wrote = w'; after = t' })
+    effect a b c = cc
 
-agree : (s : Pair) (c : Call) (d e : Deed) (gs hs : List ℕ) → Sorted s c d gs → Sorted s c e hs → Agree c d e gs hs
+agree : (s : Pair) (c : Call) (d e : Effect) (gs hs : List ℕ) → Sorted s c d gs → Sorted s c e hs → Agree c d e gs hs
 agree s c d e gs hs (stopped a x) (stopped b y) = agree_same (x ∙ sym y)
 agree s c d e gs hs (stopped a x) (went b y) = (cc)
 agree s c d e gs hs (went a x) (stopped b y) = (cc)

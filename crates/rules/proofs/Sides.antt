@@ -1,18 +1,18 @@
 -- What an end does on its own side it does in the pair.
 use Rattle.std.proofs.Common.{◌≡◌, ℕ, ◌+◌, Bool, true, false, cond, ◌&&◌, eqb, ltb, leb, List, [], ◌∷◌, ◌++◌, length, Some, None, Ok, Err, Option, Result, refl, ap}
-use Rattle.fault.specs.declared.faults.PacketFault.{PacketFault}
-use Rattle.fault.specs.declared.refusals.Refusal.{Refusal}
-use Rattle.fault.specs.declared.refusals.Refusal.TheVariants.{BadPacket, LogFull, LineFull, WrongPhase, MessageTooLong}
-use Rattle.layout.specs.Limits.{message_limit}
-use Rattle.layout.specs.declared.letters.Letter.TheVariants as L
-use Rattle.layout.specs.declared.statuses.Status.{Status}
-use Rattle.layout.specs.declared.statuses.Status.TheVariants.{Accepted, UnknownUser, SessionUnavailable, InvalidNumber, WrongVersion, WrongProtocol, AlreadyLoggedIn}
-use Rattle.layout.specs.declared.goodbyes.GoodByeReason.{GoodByeReason}
-use Rattle.layout.specs.declared.goodbyes.GoodByeReason.TheVariants as G
-use Rattle.layout.specs.declared.logouts.LogoutReason.{LogoutReason}
-use Rattle.layout.specs.declared.logouts.LogoutReason.TheVariants as X
+use Rattle.wire.specs.declared.faults.PacketFault.{PacketFault}
+use Rattle.wire.specs.declared.refusals.Refusal.{Refusal}
+use Rattle.wire.specs.declared.refusals.Refusal.TheVariants.{BadPacket, LogFull, LineFull, WrongPhase, MessageTooLong}
+use Rattle.wire.specs.Limits.{message_limit}
+use Rattle.wire.specs.declared.letters.Letter.TheVariants as L
+use Rattle.wire.specs.declared.statuses.Status.{Status}
+use Rattle.wire.specs.declared.statuses.Status.TheVariants.{Accepted, UnknownUser, SessionUnavailable, InvalidNumber, WrongVersion, WrongProtocol, AlreadyLoggedIn}
+use Rattle.wire.specs.declared.goodbyes.GoodByeReason.{GoodByeReason}
+use Rattle.wire.specs.declared.goodbyes.GoodByeReason.TheVariants as G
+use Rattle.wire.specs.declared.logouts.LogoutReason.{LogoutReason}
+use Rattle.wire.specs.declared.logouts.LogoutReason.TheVariants as X
 use Rattle.packet.specs.Values.{Value, encode, letter, good_bye, logout_request, login_response, synchronization_complete, sequenced, unsequenced, seat_heartbeat, retransmission_request, hub_heartbeat, end_of_session}
-use Rattle.packet.specs.Decoding.{Answer, part, whole}
+use Rattle.packet.specs.Decoding.{Decoded, part, whole}
 use Rattle.line.specs.Lines.{LineView, fits}
 use Rattle.message_log.specs.Meaning.{count, nth}
 use Rattle.message_log.specs.Calls.{takes, has}
@@ -31,7 +31,7 @@ use Rattle.rules.specs.Seat.{seat_gone, is_apart, seat_letters, suits, next_numb
 use Rattle.rules.specs.Calls.{done, is_serving, is_live, tell, say, leave, hub_timed, seat_timed, waiting_limit, silence_limit}
 use Rattle.rules.specs.Sides.{with_hub_side, with_seat_side, with_hub_core, with_seat_core, on_side, on_core}
 use Rattle.rules.proofs.Cases.{Act, hub_acts_lem, seat_acts_lem}
-use Rattle.layout.specs.declared.letters.Letter.{Letter}
+use Rattle.wire.specs.declared.letters.Letter.{Letter}
 use Rattle.rules.proofs.Blind.{along}
 
 -- receives of the hub
@@ -66,7 +66,7 @@ hub_acts_side p v =
     hub_acts_lem OfHub (λ f. hub_refused (BadPacket f) G.BadPacket) (λ r s t. refl) (λ r s t. refl) (λ a e s t. refl)
     (λ a s t. ap (λ u. grants (Acted L.LoginRequest) u) (decided_side _ a s t)) p v
 
-hub_judges_side : (r : Result Answer PacketFault) (got frame : List ℕ) (w : LineView) (s t : Pair) → hub_judges r got frame w (with_hub_side t s) ≡ on_side (with_hub_side t) (hub_judges r got frame w s)
+hub_judges_side : (r : Result Decoded PacketFault) (got frame : List ℕ) (w : LineView) (s t : Pair) → hub_judges r got frame w (with_hub_side t s) ≡ on_side (with_hub_side t) (hub_judges r got frame w s)
 hub_judges_side (Ok part) got frame w s t = refl
 hub_judges_side (Ok (whole v)) got frame w s t = hub_acts_side s.hub.phase v (hub_took got [] w s) t
 hub_judges_side (Err f) got frame w s t = hub_refused (BadPacket f) G.BadPacket (hub_took got [] w s) t
@@ -110,7 +110,7 @@ seat_acts_side p v =
     (along (on_side (with_seat_side t)) (ltb n (next_number s.held)) _ _ _ _ refl (skips_side s.seat.fetch s t)))
     (λ s t. completes_side s.seat.fetch s t) p v
 
-seat_judges_side : (r : Result Answer PacketFault) (got frame : List ℕ) (w : LineView) (s t : Pair) → seat_judges r got frame w (with_seat_side t s) ≡ on_side (with_seat_side t) (seat_judges r got frame w s)
+seat_judges_side : (r : Result Decoded PacketFault) (got frame : List ℕ) (w : LineView) (s t : Pair) → seat_judges r got frame w (with_seat_side t s) ≡ on_side (with_seat_side t) (seat_judges r got frame w s)
 seat_judges_side (Ok part) got frame w s t = refl
 seat_judges_side (Ok (whole v)) got frame w s t = seat_acts_side s.seat.phase v (seat_took got [] w s) t
 seat_judges_side (Err f) got frame w s t = seat_refused (BadPacket f) X.BadPacket (seat_took got [] w s) t

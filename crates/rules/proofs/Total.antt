@@ -7,7 +7,7 @@ use Rattle.rules.specs.State.{Steady, Pair, Outcome}
 use Rattle.rules.specs.Frames.{lack, given, left, Free}
 use Rattle.rules.specs.Hub.{listens, hub_hears, hub_sends}
 use Rattle.rules.specs.Seat.{is_apart, seat_hears}
-use Rattle.rules.specs.Rounds.{HubReceives, hub_deaf, hub_hears_bytes, SeatReceives, seat_deaf, seat_hears_bytes, Going, over, onward, going, Drains, ends, more, Call, Connect, Cut, Publish, Finish, Roll, Tell, Say, Leave, HubReceive, SeatReceive, HubSend, SeatSend, Tick, Round, lent_short, Step, short_buffer, connects, cuts, publishes, finishes, rolls, tells, says, leaves, hub_receives, seat_receives, hub_sends_one, seat_sends_one, ticks, rounds}
+use Rattle.rules.specs.Rounds.{HubReceives, hub_deaf, hub_hears_bytes, SeatReceives, seat_deaf, seat_hears_bytes, Going, stop, continue, going, Drains, ends, more, Call, Connect, Cut, Publish, Finish, Roll, Tell, Say, Leave, HubReceive, SeatReceive, HubSend, SeatSend, Tick, Round, lent_short, Step, short_buffer, connects, cuts, publishes, finishes, rolls, tells, says, leaves, hub_receives, seat_receives, hub_sends_one, seat_sends_one, ticks, rounds}
 use Rattle.rules.specs.Roomiest.{hub_takes, seat_takes, onwards, drained, hub_drained, seat_drained, round_went, allowed}
 use Rattle.rules.specs.Laws.{Lined, Total, RoundsGranted, GoesOnByTaking}
 use Rattle.rules.proofs.Keeps.{Keeps, keeps_trans, drains_keep, hub_receives_keep, seat_receives_keep, hub_sends_keep}
@@ -24,11 +24,11 @@ seat_takes_lem : (s : Pair) → Lined s → SeatReceives s (seat_takes s)
 seat_takes_lem s i = cond_both (is_apart s.seat.phase) _ _ (λ o. SeatReceives s o) (λ e. seat_deaf e) (λ e. seat_hears_bytes s.down.full e (all_free s.down (lack s.seat.frame) i.down))
 
 -- a receive that goes on was handed something
-hub_handed : (got : List ℕ) (w : LineView) (s : Pair) (k : ℕ) → going (hub_hears got w s).answer ≡ onward k → 0 < length got
+hub_handed : (got : List ℕ) (w : LineView) (s : Pair) (k : ℕ) → going (hub_hears got w s).answer ≡ continue k → 0 < length got
 hub_handed [] w s k e = (cc)
 hub_handed (b ∷ bs) w s k e = omega arith
 
-seat_handed : (got : List ℕ) (w : LineView) (s : Pair) (k : ℕ) → going (seat_hears got w s).answer ≡ onward k → 0 < length got
+seat_handed : (got : List ℕ) (w : LineView) (s : Pair) (k : ℕ) → going (seat_hears got w s).answer ≡ continue k → 0 < length got
 seat_handed [] w s k e = (cc)
 seat_handed (b ∷ bs) w s k e = omega arith
 
@@ -38,12 +38,12 @@ falls v n room w e h =
     let l : length w.waiting ≡ length (drop (handed v n) v.waiting) = ap (λ (x : LineView). length x.waiting) e in
     omega (arith, l, h, length-take (handed v n) v.waiting, length-drop (handed v n) v.waiting)
 
-hub_falls : (s : Pair) (o : Outcome Received) (k : ℕ) → HubReceives s o → going o.answer ≡ onward k → length o.after.up.waiting < length s.up.waiting
+hub_falls : (s : Pair) (o : Outcome Received) (k : ℕ) → HubReceives s o → going o.answer ≡ continue k → length o.after.up.waiting < length s.up.waiting
 hub_falls s _ k (hub_deaf e) g = (cc)
 hub_falls s _ k (hub_hears_bytes room e f) g =
     falls s.up (lack s.hub.frame) room _ (ap (λ o. o.after.up) (hub_hears_blind (given s.up (lack s.hub.frame)) (left s.up (lack s.hub.frame) room) s)) (hub_handed _ _ s k g)
 
-seat_falls : (s : Pair) (o : Outcome Received) (k : ℕ) → SeatReceives s o → going o.answer ≡ onward k → length o.after.down.waiting < length s.down.waiting
+seat_falls : (s : Pair) (o : Outcome Received) (k : ℕ) → SeatReceives s o → going o.answer ≡ continue k → length o.after.down.waiting < length s.down.waiting
 seat_falls s _ k (seat_deaf e) g = (cc)
 seat_falls s _ k (seat_hears_bytes room e f) g =
     falls s.down (lack s.seat.frame) room _ (ap (λ o. o.after.down) (seat_hears_blind (given s.down (lack s.seat.frame)) (left s.down (lack s.seat.frame) room) s)) (seat_handed _ _ s k g)
@@ -55,7 +55,7 @@ keeps_lined s t k i = record { up = k.up i.up; down = k.down i.down }
 module _ (R : Pair → Outcome Received → Type 0) (receive : Pair → Outcome Received) (line : Pair → LineView)
     (some : (s : Pair) → Lined s → R s (receive s))
     (keep : (s : Pair) (o : Outcome Received) → R s o → Keeps s o.after)
-    (fall : (s : Pair) (o : Outcome Received) (k : ℕ) → R s o → going o.answer ≡ onward k → length (line o.after).waiting < length (line s).waiting) where
+    (fall : (s : Pair) (o : Outcome Received) (k : ℕ) → R s o → going o.answer ≡ continue k → length (line o.after).waiting < length (line s).waiting) where
   pub drains : (m : ℕ) (s : Pair) → Lined s → length (line s).waiting < m → Drains R s (drained receive m s).packets (drained receive m s).fault (drained receive m s).after
   drains zero s i h = absurd (omega arith)
   drains (suc m) s i h = next (going (receive s).answer) refl (drains m (receive s).after (keeps_lined s (receive s).after (keep s (receive s) (some s i)) i))
@@ -63,8 +63,8 @@ module _ (R : Pair → Outcome Received → Type 0) (receive : Pair → Outcome 
       next : (g : Going) → going (receive s).answer ≡ g →
           (length (line (receive s).after).waiting < m → Drains R (receive s).after (drained receive m (receive s).after).packets (drained receive m (receive s).after).fault (drained receive m (receive s).after).after) →
           Drains R s (onwards g (receive s).after (drained receive m (receive s).after)).packets (onwards g (receive s).after (drained receive m (receive s).after)).fault (onwards g (receive s).after (drained receive m (receive s).after)).after
-      next (over f) e later = ends s (receive s) f (some s i) e
-      next (onward k) e later = more s (receive s) k _ _ _ (some s i) e (later (omega (arith, fall s (receive s) k (some s i) e)))
+      next (stop f) e later = ends s (receive s) f (some s i) e
+      next (continue k) e later = more s (receive s) k _ _ _ (some s i) e (later (omega (arith, fall s (receive s) k (some s i) e)))
 
 round_goes : (s : Pair) → Lined s → lent_short Round s ≡ false → Step s Round (round_went s)
 round_goes s i e =

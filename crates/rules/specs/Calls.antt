@@ -1,11 +1,11 @@
 -- The calls that take nothing from a line and are no send. Whether a buffer is too short (14) is judged in
 -- Rounds.antt, for all calls alike.
 use Rattle.std.specs.Prelude.{ℕ, ◌+◌, min, Bool, true, false, cond, List, [], length, Some, None, Ok, Err, Option, Result, ◌==◌, nat_le, nat_lt}
-use Rattle.fault.specs.declared.refusals.Refusal.{Refusal}
-use Rattle.fault.specs.declared.refusals.Refusal.TheVariants.{MessageTooLong, LineFull, WrongPhase, SessionFinished, HubBusy, LastSession, NoSession, NothingToFetch}
-use Rattle.layout.specs.Limits.{message_limit}
-use Rattle.layout.specs.declared.goodbyes.GoodByeReason.TheVariants as G
-use Rattle.layout.specs.declared.logouts.LogoutReason.TheVariants as X
+use Rattle.wire.specs.declared.refusals.Refusal.{Refusal}
+use Rattle.wire.specs.declared.refusals.Refusal.TheVariants.{MessageTooLong, LineFull, WrongPhase, SessionFinished, HubBusy, LastSession, NoSession, NothingToFetch}
+use Rattle.wire.specs.Limits.{message_limit}
+use Rattle.wire.specs.declared.goodbyes.GoodByeReason.TheVariants as G
+use Rattle.wire.specs.declared.logouts.LogoutReason.TheVariants as X
 use Rattle.packet.specs.Values.{Value, login_request, unsequenced, logout_request, encode}
 use Rattle.line.specs.Lines.{fits}
 use Rattle.message_log.specs.Meaning.{Meaning, count, begun, added}

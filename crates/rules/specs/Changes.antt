@@ -1,10 +1,10 @@
 -- Changes of a pair that several rules share.
 use Rattle.std.specs.Prelude.{ℕ, Bool, true, false, cond, List, [], length, Some, None, Ok, Err, Option}
-use Rattle.fault.specs.declared.refusals.Refusal.{Refusal}
-use Rattle.layout.specs.declared.statuses.Status.{Status}
+use Rattle.wire.specs.declared.refusals.Refusal.{Refusal}
+use Rattle.wire.specs.declared.statuses.Status.{Status}
 use Rattle.packet.specs.Values.{Value, encode}
 use Rattle.line.specs.Lines.{LineView, joined, cleared, fits}
-use Rattle.memory.specs.Memory.{laid}
+use Rattle.wire.specs.Overlay.{laid}
 use Rattle.message_log.specs.Meaning.{Meaning}
 use Rattle.message_log.specs.Calls.{fronted}
 use Rattle.account.specs.declared.rows.Row.{Row}

@@ -1,15 +1,15 @@
 -- Worked examples of the rules, on a small pair.
 use Rattle.std.specs.Prelude.{◌≡◌, ℕ, zero, suc, ◌-◌, Bool, true, false, List, [], ◌∷◌, replicate, Some, None, Ok, Err, Option, Result}
 use Rattle.std.specs.List.{AllByRecursion}
-use Rattle.fault.specs.declared.faults.Field.TheVariants as Field
-use Rattle.fault.specs.declared.faults.PacketFault.TheVariants.{LengthZero, OutOfPlace, WrongLength, WrongContent}
-use Rattle.fault.specs.declared.refusals.Refusal.{Refusal}
-use Rattle.fault.specs.declared.refusals.Refusal.TheVariants.{BadPacket}
-use Rattle.layout.specs.Limits.{packet_limit}
-use Rattle.layout.specs.declared.letters.Letter.TheVariants as L
-use Rattle.layout.specs.declared.statuses.Status.{Status}
-use Rattle.layout.specs.declared.statuses.Status.TheVariants.{Accepted, UnknownUser, InvalidNumber, AlreadyLoggedIn}
-use Rattle.layout.specs.declared.goodbyes.GoodByeReason.TheVariants as G
+use Rattle.wire.specs.declared.faults.Field.TheVariants as Field
+use Rattle.wire.specs.declared.faults.PacketFault.TheVariants.{LengthZero, OutOfPlace, WrongLength, WrongContent}
+use Rattle.wire.specs.declared.refusals.Refusal.{Refusal}
+use Rattle.wire.specs.declared.refusals.Refusal.TheVariants.{BadPacket}
+use Rattle.wire.specs.Limits.{packet_limit}
+use Rattle.wire.specs.declared.letters.Letter.TheVariants as L
+use Rattle.wire.specs.declared.statuses.Status.{Status}
+use Rattle.wire.specs.declared.statuses.Status.TheVariants.{Accepted, UnknownUser, InvalidNumber, AlreadyLoggedIn}
+use Rattle.wire.specs.declared.goodbyes.GoodByeReason.TheVariants as G
 use Rattle.packet.specs.Values.{Value, login_request, login_response, sequenced, unsequenced, retransmission_request, good_bye, seat_heartbeat, test, encode}
 use Rattle.line.specs.Lines.{LineView, fresh}
 use Rattle.message_log.specs.Meaning.{Meaning}

@@ -1,12 +1,12 @@
 -- Frames: how many bytes one lacks, what a take hands over, and how a frame is judged.
 use Rattle.std.specs.Prelude.{◌≡◌, ℕ, ◌+◌, ◌-◌, ◌≤◌, min, Bool, cond, List, [], length, take, drop, Ok, Err, Result, ◌==◌, nat_lt, slice_index}
 use Rattle.std.specs.List.{list_any}
-use Rattle.fault.specs.declared.faults.PacketFault.{PacketFault}
-use Rattle.fault.specs.declared.faults.PacketFault.TheVariants.{LengthZero, LengthOverLimit, UnknownLetter, OutOfPlace, WrongLength, WrongContent}
-use Rattle.layout.specs.Limits.{packet_limit}
-use Rattle.layout.specs.declared.letters.Letter.{Letter}
-use Rattle.layout.specs.Letters.{letter_byte}
-use Rattle.packet.specs.Decoding.{Answer, part, whole, head_number, decode}
+use Rattle.wire.specs.declared.faults.PacketFault.{PacketFault}
+use Rattle.wire.specs.declared.faults.PacketFault.TheVariants.{LengthZero, LengthOverLimit, UnknownLetter, OutOfPlace, WrongLength, WrongContent}
+use Rattle.wire.specs.Limits.{packet_limit}
+use Rattle.wire.specs.declared.letters.Letter.{Letter}
+use Rattle.wire.specs.Letters.{letter_byte}
+use Rattle.packet.specs.Decoding.{Decoded, part, whole, head_number, decode}
 use Rattle.line.specs.Lines.{LineView, handed}
 
 -- what a frame still lacks: first the two bytes of the length number, then the rest that they count. No frame is
@@ -33,7 +33,7 @@ abbrev pub among : List Letter → ℕ → Bool
 among letters b = list_any (λ l. b == letter_byte l) letters
 
 -- An end that knows its phase tells a letter that is out of place before a wrong length or a wrong content.
-abbrev pub placed : Bool → Result Answer PacketFault → Result Answer PacketFault
+abbrev pub placed : Bool → Result Decoded PacketFault → Result Decoded PacketFault
 placed here (Ok part) = Ok part
 placed here (Ok (whole v)) = cond here (Ok (whole v)) (Err OutOfPlace)
 placed here (Err LengthZero) = Err LengthZero
@@ -44,5 +44,5 @@ placed here (Err WrongLength) = cond here (Err WrongLength) (Err OutOfPlace)
 placed here (Err (WrongContent field)) = cond here (Err (WrongContent field)) (Err OutOfPlace)
 
 -- what an end that takes these letters says of its frame
-abbrev pub judged : List Letter → List ℕ → Result Answer PacketFault
+abbrev pub judged : List Letter → List ℕ → Result Decoded PacketFault
 judged letters frame = placed (among letters (slice_index frame 2)) (decode frame)

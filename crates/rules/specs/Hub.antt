@@ -1,18 +1,18 @@
 -- What the hub does with what it takes, and what it sends.
 use Rattle.std.specs.Prelude.{ℕ, ◌+◌, min, Bool, true, false, cond, ◌&&◌, List, [], ◌∷◌, ◌++◌, length, Some, None, Ok, Err, Option, Result, ◌==◌, nat_le, nat_lt}
-use Rattle.fault.specs.declared.faults.Field.TheVariants as Field
-use Rattle.fault.specs.declared.faults.PacketFault.{PacketFault}
-use Rattle.fault.specs.declared.faults.PacketFault.TheVariants.{OutOfPlace, WrongContent}
-use Rattle.fault.specs.declared.refusals.Refusal.{Refusal}
-use Rattle.fault.specs.declared.refusals.Refusal.TheVariants.{BadPacket, LineFull, WrongPhase}
-use Rattle.layout.specs.declared.letters.Letter.{Letter}
-use Rattle.layout.specs.declared.letters.Letter.TheVariants as L
-use Rattle.layout.specs.declared.statuses.Status.{Status}
-use Rattle.layout.specs.declared.statuses.Status.TheVariants.{Accepted, UnknownUser, SessionUnavailable, InvalidNumber, WrongVersion, WrongProtocol, AlreadyLoggedIn}
-use Rattle.layout.specs.declared.goodbyes.GoodByeReason.{GoodByeReason}
-use Rattle.layout.specs.declared.goodbyes.GoodByeReason.TheVariants as G
+use Rattle.wire.specs.declared.faults.Field.TheVariants as Field
+use Rattle.wire.specs.declared.faults.PacketFault.{PacketFault}
+use Rattle.wire.specs.declared.faults.PacketFault.TheVariants.{OutOfPlace, WrongContent}
+use Rattle.wire.specs.declared.refusals.Refusal.{Refusal}
+use Rattle.wire.specs.declared.refusals.Refusal.TheVariants.{BadPacket, LineFull, WrongPhase}
+use Rattle.wire.specs.declared.letters.Letter.{Letter}
+use Rattle.wire.specs.declared.letters.Letter.TheVariants as L
+use Rattle.wire.specs.declared.statuses.Status.{Status}
+use Rattle.wire.specs.declared.statuses.Status.TheVariants.{Accepted, UnknownUser, SessionUnavailable, InvalidNumber, WrongVersion, WrongProtocol, AlreadyLoggedIn}
+use Rattle.wire.specs.declared.goodbyes.GoodByeReason.{GoodByeReason}
+use Rattle.wire.specs.declared.goodbyes.GoodByeReason.TheVariants as G
 use Rattle.packet.specs.Values.{Value, login_request, login_response, sequenced, unsequenced, synchronization_complete, retransmission_request, logout_request, good_bye, end_of_session, hub_heartbeat, seat_heartbeat, test, letter, encode}
-use Rattle.packet.specs.Decoding.{Answer, part, whole}
+use Rattle.packet.specs.Decoding.{Decoded, part, whole}
 use Rattle.line.specs.Lines.{LineView, fits}
 use Rattle.message_log.specs.Meaning.{count, nth}
 use Rattle.message_log.specs.Calls.{has}
@@ -137,7 +137,7 @@ hub_acts (Serving asked next owed) v s = hub_serving asked v s
 hub_acts (Filling next last) v s = hub_filling next last v s
 
 -- the frame is judged once these bytes are in
-abbrev pub hub_judges : Result Answer PacketFault → List ℕ → List ℕ → LineView → Pair → Outcome Received
+abbrev pub hub_judges : Result Decoded PacketFault → List ℕ → List ℕ → LineView → Pair → Outcome Received
 hub_judges (Ok part) got frame up s = grants Part (hub_took got frame up s)
 hub_judges (Ok (whole v)) got frame up s = hub_acts s.hub.phase v (hub_took got [] up s)
 hub_judges (Err fault) got frame up s = hub_bad fault (hub_took got [] up s)

@@ -1,7 +1,7 @@
--- One deed of each call, as a function: that in which every take leaves all the room of its line.
+-- One effect of each call, as a function: that in which every take leaves all the room of its line.
 use Rattle.std.specs.Prelude.{ℕ, zero, suc, ◌+◌, cond, length, None, Ok, Option}
-use Rattle.fault.specs.declared.faults.Fault.{Fault}
-use Rattle.fault.specs.declared.refusals.Refusal.TheVariants.{ShortBuffer, WrongPhase}
+use Rattle.wire.specs.declared.faults.Fault.{Fault}
+use Rattle.wire.specs.declared.refusals.Refusal.TheVariants.{ShortBuffer, WrongPhase}
 use Rattle.rules.specs.declared.answers.Received.{Received}
 use Rattle.rules.specs.State.{Pair, Outcome}
 use Rattle.rules.specs.Changes.{refuses}
@@ -9,7 +9,8 @@ use Rattle.rules.specs.Frames.{lack, given, left}
 use Rattle.rules.specs.Hub.{listens, hub_hears, hub_sends}
 use Rattle.rules.specs.Seat.{is_apart, seat_hears, seat_sends}
 use Rattle.rules.specs.Calls.{done, connect, cut, publish, finish, roll, tell, say, leave, tick}
-use Rattle.rules.specs.Rounds.{Going, over, onward, going, Call, Connect, Cut, Publish, Finish, Roll, Tell, Say, Leave, HubReceive, SeatReceive, HubSend, SeatSend, Tick, Round, Put, Went, refusal, lent_short, Deed, did, took}
+use Rattle.rules.specs.declared.answers.Answer.TheVariants as Answer
+use Rattle.rules.specs.Rounds.{Going, stop, continue, going, Call, Connect, Cut, Publish, Finish, Roll, Tell, Say, Leave, HubReceive, SeatReceive, HubSend, SeatSend, Tick, Round, refusal, lent_short, Effect, did, took}
 
 abbrev pub hub_takes : Pair → Outcome Received
 hub_takes s =
@@ -30,8 +31,8 @@ pub record Drain : Type 0 where
 
 -- a receive ended them, or these came after it
 abbrev pub onwards : Going → Pair → Drain → Drain
-onwards (over fault) t later = record { packets = 0; fault = fault; after = t }
-onwards (onward k) t later = record { packets = k + later.packets; fault = later.fault; after = later.after }
+onwards (stop fault) t later = record { packets = 0; fault = fault; after = t }
+onwards (continue k) t later = record { packets = k + later.packets; fault = later.fault; after = later.after }
 
 -- at most so many receives
 abbrev pub drained : (Pair → Outcome Received) → ℕ → Pair → Drain
@@ -48,10 +49,10 @@ seat_drained s = drained seat_takes (suc (length s.down.waiting)) s
 abbrev pub seat_drained_after : Pair → Drain
 seat_drained_after heard = seat_drained (hub_sends heard).after
 
-abbrev pub round_went : Pair → Deed
+abbrev pub round_went : Pair → Effect
 round_went s =
     record {
-      answer = Went (Ok (record {
+      answer = Answer.Round (Ok (record {
         hub = record { packets = (hub_drained s).packets; fault = (hub_drained s).fault };
         seat = record { packets = (seat_drained_after (hub_drained s).after).packets; fault = (seat_drained_after (hub_drained s).after).fault };
       }));
@@ -60,7 +61,7 @@ round_went s =
     }
 
 -- where no short buffer is lent
-abbrev pub allowed : Call → Pair → Deed
+abbrev pub allowed : Call → Pair → Effect
 allowed (Connect how) s = did (connect how s)
 allowed Cut s = did (done (cut s))
 allowed (Publish m) s = did (publish m s)
@@ -71,10 +72,10 @@ allowed (Say m) s = did (say m s)
 allowed Leave s = did (leave s)
 allowed HubReceive s = took (hub_takes s)
 allowed SeatReceive s = took (seat_takes s)
-allowed HubSend s = record { answer = Put (hub_sends s).answer; wrote = (hub_sends s).wrote; after = (hub_sends s).after }
-allowed SeatSend s = record { answer = Put (seat_sends s).answer; wrote = None; after = (seat_sends s).after }
+allowed HubSend s = record { answer = Answer.Sent (hub_sends s).answer; wrote = (hub_sends s).wrote; after = (hub_sends s).after }
+allowed SeatSend s = record { answer = Answer.Sent (seat_sends s).answer; wrote = None; after = (seat_sends s).after }
 allowed Tick s = did (done (tick s))
 allowed Round s = round_went s
 
-abbrev pub roomiest : Call → Pair → Deed
+abbrev pub roomiest : Call → Pair → Effect
 roomiest c s = cond (lent_short c s) (record { answer = refusal c ShortBuffer; wrote = None; after = s }) (allowed c s)

@@ -1,23 +1,25 @@
 -- Receives with what is free in them, rounds, and the calls together.
 use Rattle.std.specs.Prelude.{◌≡◌, ℕ, ◌+◌, Bool, true, false, ◌&&◌, ◌||◌, List, length, Some, None, Ok, Err, Option, Result, nat_le, nat_lt}
-use Rattle.fault.specs.declared.faults.Fault.{Fault}
-use Rattle.fault.specs.declared.faults.Fault.TheVariants as F
-use Rattle.fault.specs.declared.faults.LogFault.TheVariants.{Full}
-use Rattle.fault.specs.declared.refusals.Refusal.{Refusal}
-use Rattle.fault.specs.declared.refusals.Refusal.TheVariants.{MessageTooLong, SessionZero, NoSuchMessage, ShortBuffer, SizeOutOfRange, BadAccountField, BrokenLog, BadPacket, LogFull, LineFull, WrongPhase, SessionFinished, HubBusy, LastSession, NoSession, NothingToFetch, AccountTaken, OutOfMemory}
-use Rattle.layout.specs.Limits.{message_limit, packet_limit}
+use Rattle.wire.specs.declared.faults.Fault.{Fault}
+use Rattle.wire.specs.declared.faults.Fault.TheVariants as F
+use Rattle.wire.specs.declared.faults.LogFault.TheVariants.{Full}
+use Rattle.wire.specs.declared.refusals.Refusal.{Refusal}
+use Rattle.wire.specs.declared.refusals.Refusal.TheVariants.{MessageTooLong, SessionZero, NoSuchMessage, ShortBuffer, SizeOutOfRange, BadAccountField, BrokenLog, BadPacket, LogFull, LineFull, WrongPhase, SessionFinished, HubBusy, LastSession, NoSession, NothingToFetch, AccountTaken, OutOfMemory}
+use Rattle.wire.specs.Limits.{message_limit, packet_limit}
 use Rattle.packet.specs.Values.{Value}
 use Rattle.rules.specs.declared.phases.How.{How}
 use Rattle.rules.specs.declared.answers.Received.{Received}
 use Rattle.rules.specs.declared.answers.Received.TheVariants.{Nothing, Part, Acted, Message}
 use Rattle.rules.specs.declared.answers.Report.{Report}
+use Rattle.rules.specs.declared.answers.Answer.{Answer}
+use Rattle.rules.specs.declared.answers.Answer.TheVariants as Answer
 use Rattle.rules.specs.State.{Pair, Outcome}
 use Rattle.rules.specs.Changes.{refuses}
 use Rattle.rules.specs.Frames.{lack, given, left, Free}
 use Rattle.rules.specs.Hub.{listens, hub_hears, hub_sends}
 use Rattle.rules.specs.Seat.{is_apart, seat_hears, seat_sends}
 use Rattle.rules.specs.Calls.{Done, done, connect, cut, publish, finish, roll, tell, say, leave, tick}
-use Rattle.layout.specs.declared.letters.Letter.{Letter}
+use Rattle.wire.specs.declared.letters.Letter.{Letter}
 
 -- The hub receives: it takes once, at most what its frame lacks. The take leaves a room that is free.
 pub data HubReceives (s : Pair) : Outcome Received → Type 0 where
@@ -53,21 +55,21 @@ fault_of OutOfMemory = None
 
 -- what a receive's answer means for a round: the receives end, or go on with so many packets acted on more
 pub data Going : Type 0 where
-  over : Option Fault → Going
-  onward : ℕ → Going
+  stop : Option Fault → Going
+  continue : ℕ → Going
 
 abbrev pub going : Result Received Refusal → Going
-going (Ok Nothing) = over None
-going (Ok Part) = onward 0
-going (Ok (Acted letter)) = onward 1
-going (Ok (Message place long)) = onward 1
-going (Err refusal) = over (fault_of refusal)
+going (Ok Nothing) = stop None
+going (Ok Part) = continue 0
+going (Ok (Acted letter)) = continue 1
+going (Ok (Message place long)) = continue 1
+going (Err refusal) = stop (fault_of refusal)
 
 -- An end receives until nothing waits or it is refused: so many packets were acted on, and what was wrong.
 pub data Drains (Receives : Pair → Outcome Received → Type 0) : Pair → ℕ → Option Fault → Pair → Type 0 where
-  ends : (s : Pair) (o : Outcome Received) (fault : Option Fault) → Receives s o → going o.answer ≡ over fault →
+  ends : (s : Pair) (o : Outcome Received) (fault : Option Fault) → Receives s o → going o.answer ≡ stop fault →
       Drains Receives s 0 fault o.after
-  more : (s : Pair) (o : Outcome Received) (k n : ℕ) (fault : Option Fault) (t : Pair) → Receives s o → going o.answer ≡ onward k →
+  more : (s : Pair) (o : Outcome Received) (k n : ℕ) (fault : Option Fault) (t : Pair) → Receives s o → going o.answer ≡ continue k →
       Drains Receives o.after n fault t → Drains Receives s (k + n) fault t
 
 -- A round: the hub receives what waits, the hub sends, the seat receives what waits, the seat sends. The refusal
@@ -97,28 +99,22 @@ pub data Call : Type 0 where
   Tick : Call
   Round : Call
 
-pub data Answer : Type 0 where
-  Did : Result (Unit {0}) Refusal → Answer
-  Took : Result Received Refusal → Answer
-  Put : Result (Option Letter) Refusal → Answer
-  Went : Result Report Refusal → Answer
-
 -- a call is refused, with nothing changed
 abbrev pub refusal : Call → Refusal → Answer
-refusal (Connect how) r = Did (Err r)
-refusal Cut r = Did (Err r)
-refusal (Publish m) r = Did (Err r)
-refusal Finish r = Did (Err r)
-refusal Roll r = Did (Err r)
-refusal (Tell m) r = Did (Err r)
-refusal (Say m) r = Did (Err r)
-refusal Leave r = Did (Err r)
-refusal HubReceive r = Took (Err r)
-refusal SeatReceive r = Took (Err r)
-refusal HubSend r = Put (Err r)
-refusal SeatSend r = Put (Err r)
-refusal Tick r = Did (Err r)
-refusal Round r = Went (Err r)
+refusal (Connect how) r = Answer.Done (Err r)
+refusal Cut r = Answer.Done (Err r)
+refusal (Publish m) r = Answer.Done (Err r)
+refusal Finish r = Answer.Done (Err r)
+refusal Roll r = Answer.Done (Err r)
+refusal (Tell m) r = Answer.Done (Err r)
+refusal (Say m) r = Answer.Done (Err r)
+refusal Leave r = Answer.Done (Err r)
+refusal HubReceive r = Answer.Received (Err r)
+refusal SeatReceive r = Answer.Received (Err r)
+refusal HubSend r = Answer.Sent (Err r)
+refusal SeatSend r = Answer.Sent (Err r)
+refusal Tick r = Answer.Done (Err r)
+refusal Round r = Answer.Round (Err r)
 
 -- a lent buffer must hold the longest packet
 abbrev pub too_short : List ℕ → Bool
@@ -142,19 +138,19 @@ lent_short Tick s = too_short s.buffers.out
 lent_short Round s = too_short s.buffers.hub_frame || (too_short s.buffers.seat_frame || too_short s.buffers.out)
 
 -- What a call answers, the packet that a send of the hub wrote in it, and the pair after it.
-pub record Deed : Type 0 where
+pub record Effect : Type 0 where
   pub answer : Answer
   pub wrote : Option Value
   pub after : Pair
 
-abbrev pub did : Done → Deed
-did o = record { answer = Did o.answer; wrote = None; after = o.after }
+abbrev pub did : Done → Effect
+did o = record { answer = Answer.Done o.answer; wrote = None; after = o.after }
 
-abbrev pub took : Outcome Received → Deed
-took o = record { answer = Took o.answer; wrote = None; after = o.after }
+abbrev pub took : Outcome Received → Effect
+took o = record { answer = Answer.Received o.answer; wrote = None; after = o.after }
 
 -- What each call may lead to. But for what is free in receives there is one outcome.
-pub data Step (s : Pair) : Call → Deed → Type 0 where
+pub data Step (s : Pair) : Call → Effect → Type 0 where
   short_buffer : (c : Call) → lent_short c s ≡ true → Step s c (record { answer = refusal c ShortBuffer; wrote = None; after = s })
   connects : (how : How) → lent_short (Connect how) s ≡ false → Step s (Connect how) (did (connect how s))
   cuts : Step s Cut (did (done (cut s)))
@@ -166,8 +162,8 @@ pub data Step (s : Pair) : Call → Deed → Type 0 where
   leaves : lent_short Leave s ≡ false → Step s Leave (did (leave s))
   hub_receives : (o : Outcome Received) → lent_short HubReceive s ≡ false → HubReceives s o → Step s HubReceive (took o)
   seat_receives : (o : Outcome Received) → lent_short SeatReceive s ≡ false → SeatReceives s o → Step s SeatReceive (took o)
-  hub_sends_one : lent_short HubSend s ≡ false → Step s HubSend (record { answer = Put (hub_sends s).answer; wrote = (hub_sends s).wrote; after = (hub_sends s).after })
-  seat_sends_one : lent_short SeatSend s ≡ false → Step s SeatSend (record { answer = Put (seat_sends s).answer; wrote = None; after = (seat_sends s).after })
+  hub_sends_one : lent_short HubSend s ≡ false → Step s HubSend (record { answer = Answer.Sent (hub_sends s).answer; wrote = (hub_sends s).wrote; after = (hub_sends s).after })
+  seat_sends_one : lent_short SeatSend s ≡ false → Step s SeatSend (record { answer = Answer.Sent (seat_sends s).answer; wrote = None; after = (seat_sends s).after })
   ticks : lent_short Tick s ≡ false → Step s Tick (did (done (tick s)))
   rounds : (report : Report) (wrote : Option Value) (t : Pair) → lent_short Round s ≡ false → Rounds s report wrote t →
-      Step s Round (record { answer = Went (Ok report); wrote = wrote; after = t })
+      Step s Round (record { answer = Answer.Round (Ok report); wrote = wrote; after = t })

@@ -1,18 +1,18 @@
 -- What the seat does with what it takes, and what it sends.
 use Rattle.std.specs.Prelude.{ℕ, ◌+◌, Bool, true, false, cond, not, ◌||◌, List, [], ◌∷◌, ◌++◌, length, Some, None, Ok, Err, Option, Result, ◌==◌, nat_lt}
-use Rattle.fault.specs.declared.faults.Field.TheVariants as Field
-use Rattle.fault.specs.declared.faults.PacketFault.{PacketFault}
-use Rattle.fault.specs.declared.faults.PacketFault.TheVariants.{OutOfPlace, WrongContent}
-use Rattle.fault.specs.declared.refusals.Refusal.{Refusal}
-use Rattle.fault.specs.declared.refusals.Refusal.TheVariants.{BadPacket, LogFull, LineFull, WrongPhase}
-use Rattle.layout.specs.declared.letters.Letter.{Letter}
-use Rattle.layout.specs.declared.letters.Letter.TheVariants as L
-use Rattle.layout.specs.declared.statuses.Status.{Status}
-use Rattle.layout.specs.declared.statuses.Status.TheVariants.{Accepted, UnknownUser, SessionUnavailable, InvalidNumber, WrongVersion, WrongProtocol, AlreadyLoggedIn}
-use Rattle.layout.specs.declared.logouts.LogoutReason.{LogoutReason}
-use Rattle.layout.specs.declared.logouts.LogoutReason.TheVariants as X
+use Rattle.wire.specs.declared.faults.Field.TheVariants as Field
+use Rattle.wire.specs.declared.faults.PacketFault.{PacketFault}
+use Rattle.wire.specs.declared.faults.PacketFault.TheVariants.{OutOfPlace, WrongContent}
+use Rattle.wire.specs.declared.refusals.Refusal.{Refusal}
+use Rattle.wire.specs.declared.refusals.Refusal.TheVariants.{BadPacket, LogFull, LineFull, WrongPhase}
+use Rattle.wire.specs.declared.letters.Letter.{Letter}
+use Rattle.wire.specs.declared.letters.Letter.TheVariants as L
+use Rattle.wire.specs.declared.statuses.Status.{Status}
+use Rattle.wire.specs.declared.statuses.Status.TheVariants.{Accepted, UnknownUser, SessionUnavailable, InvalidNumber, WrongVersion, WrongProtocol, AlreadyLoggedIn}
+use Rattle.wire.specs.declared.logouts.LogoutReason.{LogoutReason}
+use Rattle.wire.specs.declared.logouts.LogoutReason.TheVariants as X
 use Rattle.packet.specs.Values.{Value, login_request, login_response, sequenced, unsequenced, synchronization_complete, retransmission_request, logout_request, good_bye, end_of_session, hub_heartbeat, seat_heartbeat, test, letter, encode}
-use Rattle.packet.specs.Decoding.{Answer, part, whole}
+use Rattle.packet.specs.Decoding.{Decoded, part, whole}
 use Rattle.line.specs.Lines.{LineView, fits}
 use Rattle.message_log.specs.Meaning.{Meaning, count, begun, added}
 use Rattle.message_log.specs.Calls.{takes}
@@ -133,7 +133,7 @@ seat_acts Apart v s = seat_bad OutOfPlace s
 seat_acts Asking v s = seat_asking v s
 seat_acts Live v s = seat_live v s
 
-abbrev pub seat_judges : Result Answer PacketFault → List ℕ → List ℕ → LineView → Pair → Outcome Received
+abbrev pub seat_judges : Result Decoded PacketFault → List ℕ → List ℕ → LineView → Pair → Outcome Received
 seat_judges (Ok part) got frame down s = grants Part (seat_took got frame down s)
 seat_judges (Ok (whole v)) got frame down s = seat_acts s.seat.phase v (seat_took got [] down s)
 seat_judges (Err fault) got frame down s = seat_bad fault (seat_took got [] down s)

@@ -1,8 +1,8 @@
 -- Set-up: a pair is made of its parts, or refused.
 use Rattle.std.specs.Prelude.{ℕ, Bool, true, false, cond, ◌&&◌, ◌||◌, List, [], ◌∷◌, length, Ok, Err, Result, ◌==◌}
 use Rattle.std.specs.Str.{bytes_eq}
-use Rattle.fault.specs.declared.refusals.Refusal.{Refusal}
-use Rattle.fault.specs.declared.refusals.Refusal.TheVariants.{ShortBuffer, SizeOutOfRange}
+use Rattle.wire.specs.declared.refusals.Refusal.{Refusal}
+use Rattle.wire.specs.declared.refusals.Refusal.TheVariants.{ShortBuffer, SizeOutOfRange}
 use Rattle.line.specs.Lines.{LineView}
 use Rattle.message_log.specs.Meaning.{Meaning, begun}
 use Rattle.account.specs.declared.rows.Row.{Row}

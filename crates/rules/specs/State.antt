@@ -1,7 +1,7 @@
 -- The state of a pair, by meanings alone.
 use Rattle.std.specs.Prelude.{ℕ, ◌≤◌, Bool, List, Option, Result}
-use Rattle.fault.specs.declared.refusals.Refusal.{Refusal}
-use Rattle.layout.specs.declared.statuses.Status.{Status}
+use Rattle.wire.specs.declared.refusals.Refusal.{Refusal}
+use Rattle.wire.specs.declared.statuses.Status.{Status}
 use Rattle.line.specs.Lines.{LineView, Sound}
 use Rattle.message_log.specs.Meaning.{Meaning}
 use Rattle.account.specs.declared.rows.Row.{Row}

@@ -1,6 +1,5 @@
 //! What calls answer.
-use fault::Fault;
-use layout::Letter;
+use wire::{Fault, Letter, Refusal};
 
 /// What a granted receive did.
 #[derive(Clone, Copy)]
@@ -30,4 +29,17 @@ pub struct Heard {
 pub struct Report {
     pub hub: Heard,
     pub seat: Heard,
+}
+
+/// What a call answered.
+#[derive(Clone, Copy)]
+pub enum Answer {
+    /// What a call answered that takes nothing and is no send.
+    Done(Result<(), Refusal>),
+    /// What a receive answered.
+    Received(Result<Received, Refusal>),
+    /// What a send answered: the letter of the packet, if one was due.
+    Sent(Result<Option<Letter>, Refusal>),
+    /// What a round answered.
+    Round(Result<Report, Refusal>),
 }

@@ -8,12 +8,12 @@
 //! The rules are total, and nothing but those numbers is free in them: `laws`, with worked examples.
 //!
 //! Left out: the code of the ends. The types, in the order a reader meets them: `HubPhase`, `SeatPhase`, `How`,
-//! `Received`, `Heard`, `Report`.
+//! `Received`, `Heard`, `Report`, `Answer`.
 #![tactic(auto)]
 
 pub mod answers;
 pub mod laws;
 pub mod phases;
 
-pub use answers::{Heard, Received, Report};
+pub use answers::{Answer, Heard, Received, Report};
 pub use phases::{How, HubPhase, SeatPhase};

@@ -1,5 +1,5 @@
 //! The phases of the two ends, and the ways to connect.
-use layout::Status;
+use wire::Status;
 
 /// Where the hub stands with its connection.
 #[derive(Clone, Copy)]

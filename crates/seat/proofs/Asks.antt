@@ -1,10 +1,10 @@
 -- What the calls that are neither a receive nor a send come to.
 use Rattle.std.proofs.Common.{◌≡◌, ℕ, ◌≤◌, Bool, true, false, cond, eqb, leb, List, [], length, Ok, Err, sym, refl, ap, ◌∙◌, arith, length-append}
 use Rattle.std.proofs.lemmas.Bool.{and_right, cond-true, cond-false, le-ltb, le-leb}
-use Rattle.fault.specs.declared.refusals.Refusal.{Refusal}
-use Rattle.fault.specs.declared.refusals.Refusal.TheVariants.{NoSession, NothingToFetch}
-use Rattle.layout.specs.Limits.{message_limit}
-use Rattle.layout.specs.declared.logouts.LogoutReason.TheVariants as X
+use Rattle.wire.specs.declared.refusals.Refusal.{Refusal}
+use Rattle.wire.specs.declared.refusals.Refusal.TheVariants.{NoSession, NothingToFetch}
+use Rattle.wire.specs.Limits.{message_limit}
+use Rattle.wire.specs.declared.logouts.LogoutReason.TheVariants as X
 use Rattle.packet.specs.Values.{Value, encode, length_number, login_request, logout_request, unsequenced}
 use Rattle.packet.proofs.Back.{length_encode}
 use Rattle.line.specs.Lines.{LineView, Sound, cleared, fits}
@@ -78,7 +78,7 @@ emptied s =
     with_seat s (record { phase = s.seat.phase; session = s.seat.session; number = s.seat.number; fetch = s.seat.fetch; requested = s.seat.requested; in_step = s.seat.in_step; status = s.seat.status; frame = []; unsent = 0; silent = 0 })
 
 -- the seat is new, and has written its login on the cleared line
-pub asks_granted : (how : How) (seat begun written : Seat) (log : Meaning) (up cleaned up' down : LineView) (account : Account) (frame out out' : List ℕ) (x : Unit {0}) (session number : ℕ) → session ≡ begun.standing.session → number ≡ begun.standing.number →
+pub asks_granted : (how : How) (seat begun written : Seat) (log : Meaning) (up cleaned up' down : LineView) (account : Account) (frame out out' : List ℕ) (x : Unit {0}) (session number : ℕ) → session ≡ begun.state.session → number ≡ begun.state.number →
     too_short out ≡ false → cleaned ≡ cleared up → (connect how (side_of seat log up (cleared down) account frame out)).answer ≡ Ok x →
     side_of begun log cleaned (cleared down) account frame out ≡ asking how (emptied (side_of seat log cleaned (cleared down) account frame out)) →
     fits cleaned (encode (login_request spoken_version account.user account.computer account.protocol session number)) ≡ true →
@@ -89,6 +89,6 @@ asks_granted how seat begun written log up cleaned up' down account frame out ou
     let login : Pair → Pair = λ t. seat_writes (login_request spoken_version account.user account.computer account.protocol t.seat.session t.seat.number) t in
     let asked : ℕ → ℕ → Pair = λ i k. seat_writes (login_request spoken_version account.user account.computer account.protocol i k) (side_of begun log cleaned (cleared down) account frame out) in
     let t : side_of written log up' (cleared down) account frame out' ≡ seat_side_of (connected how s) =
-    w ∙ cond-true _ _ _ f ∙ ap (λ (i : ℕ). asked i number) es ∙ ap (λ (i : ℕ). asked begun.standing.session i) en ∙ ap login b ∙ ap (λ (u : LineView). login (asking how (emptied (side_of seat log u (cleared down) account frame out)))) c in
+    w ∙ cond-true _ _ _ f ∙ ap (λ (i : ℕ). asked i number) es ∙ ap (λ (i : ℕ). asked begun.state.session i) en ∙ ap login b ∙ ap (λ (u : LineView). login (asking how (emptied (side_of seat log u (cleared down) account frame out)))) c in
     ap (λ (y : Pair). answered (Ok tt) y) t
     ∙ sym (cond-false _ _ _ a ∙ ap (λ (o : Done). answered o.answer (seat_side_of o.after)) (connect_granted how s x h))

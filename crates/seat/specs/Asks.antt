@@ -1,6 +1,6 @@
 -- What the calls of the seat that are neither a receive nor a send do to its side of a pair.
 use Rattle.std.specs.Prelude.{ℕ, cond, List}
-use Rattle.fault.specs.declared.refusals.Refusal.TheVariants.{ShortBuffer}
+use Rattle.wire.specs.declared.refusals.Refusal.TheVariants.{ShortBuffer}
 use Rattle.account.specs.declared.fields.Account.{Account}
 use Rattle.rules.specs.declared.phases.How.{How}
 use Rattle.rules.specs.State.{Account as Fields, Pair}

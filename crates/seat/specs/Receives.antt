@@ -1,7 +1,7 @@
 -- What a receive does to the seat's side of a pair.
 use Rattle.std.specs.Prelude.{◌≡◌, ℕ, false, cond, Result}
-use Rattle.fault.specs.declared.refusals.Refusal.{Refusal}
-use Rattle.fault.specs.declared.refusals.Refusal.TheVariants.{ShortBuffer, WrongPhase}
+use Rattle.wire.specs.declared.refusals.Refusal.{Refusal}
+use Rattle.wire.specs.declared.refusals.Refusal.TheVariants.{ShortBuffer, WrongPhase}
 use Rattle.rules.specs.declared.answers.Received.{Received}
 use Rattle.rules.specs.State.{Pair, Outcome}
 use Rattle.rules.specs.Changes.{refuses}

@@ -12,15 +12,14 @@ ghost use Rattle.seat.specs.Asks.{fields_of, asks, says};
 
 use crate::seats::Seat;
 use crate::sending::logout;
+use crate::state::{SeatState, may_connect};
 use account::{Account, SPOKEN_VERSION};
-use fault::Refusal;
 use framing::{SILENCE_LIMIT, has_room, one_more};
-use layout::{LogoutReason, MESSAGE_LIMIT, PACKET_LIMIT};
 use line::Line;
 use message_log::Log;
 use packet::{Login, Packet};
 use rules::{How, SeatPhase};
-use standing::{Standing, may_connect};
+use wire::{LogoutReason, MESSAGE_LIMIT, PACKET_LIMIT, Refusal};
 
 impl Seat {
     /// Connects, once the down line is cleared: it clears the up line, is new but for its log, and writes its login
@@ -41,7 +40,7 @@ impl Seat {
         may_connect(how, log)?;
         up.clear();
         *self = Seat {
-            standing: Standing::asking(how, log),
+            state: SeatState::asking(how, log),
             filled: 0,
             unsent: 0,
             silent: 0,
@@ -52,8 +51,8 @@ impl Seat {
             user: &account.user,
             computer: &account.computer,
             protocol: &account.protocol,
-            session: self.standing.session(),
-            number: self.standing.number(),
+            session: self.state.session(),
+            number: self.state.number(),
         };
         self.write(Packet::LoginRequest(login), up, out)
     }
@@ -78,7 +77,7 @@ impl Seat {
         if !has_room(packet, up) {
             return Err(Refusal::LineFull);
         }
-        match self.standing.phase() {
+        match self.state.phase() {
             SeatPhase::Live => self.write(packet, up, out),
             SeatPhase::Apart | SeatPhase::Asking => Err(Refusal::WrongPhase),
         }
@@ -95,7 +94,7 @@ impl Seat {
         if !has_room(logout(LogoutReason::Done), up) {
             return Err(Refusal::LineFull);
         }
-        if self.standing.is_apart() {
+        if self.state.is_apart() {
             return Err(Refusal::WrongPhase);
         }
         self.part(LogoutReason::Done, up, out);
@@ -106,7 +105,7 @@ impl Seat {
     pub fn cut(&mut self)
         ensures { (log : Meaning) (up down : LineView) (account : Fields) (frame out : List ℕ) → side_of self.new log (cleared up) (cleared down) account frame out ≡ seat_side_of (cut (side_of self.old log up down account frame out)) }
     {
-        self.standing.part();
+        self.state.part();
         self.filled = 0;
         self.unsent = 0;
         self.silent = 0;
@@ -119,7 +118,7 @@ impl Seat {
         self.unsent = one_more(self.unsent);
         self.silent = one_more(self.silent);
         if self.silent > SILENCE_LIMIT {
-            self.standing.part();
+            self.state.part();
         }
     }
 }

@@ -1,16 +1,19 @@
 //! The seat: the end of a connection that takes messages and keeps them in its log.
 //!
-//! A `Seat` holds no line, log or buffer: each call is lent what it needs. Log, lines and buffers are parameters of
-//! their own and not one struct: a pair is generic over two logs and two lines, and lends each of them apart.
+//! A `Seat` holds no line, log or buffer: each call is lent what it needs. Its `State` is where it stands with its
+//! connection: the phase, what its login asked for, and what it was told.
 //!
-//! Left out: what it makes of a packet, which is the crate `standing`; the hub; and what clears the down line.
-//! In the order a reader meets them: `Seat`, its `receive`, its `send`, the calls that are neither, `may_connect`.
+//! Left out: the hub, and what clears the down line. In the order a reader meets them: `Seat`, its `receive`, what it
+//! makes of a packet (`acts`), its `send`, what is due (`dues`), the calls that are neither, `may_connect`.
 #![tactic(auto)]
 
+mod acts;
 mod calls;
+mod dues;
 mod receiving;
 mod seats;
 mod sending;
+mod state;
 
 pub use seats::Seat;
-pub use standing::may_connect;
+pub use state::may_connect;

@@ -1,7 +1,7 @@
 //! What the seat hears.
 //! One take, at most what the frame still lacks; a packet that is whole then is acted on.
 ghost use Rattle.std.specs.Prelude.{◌≡◌, ℕ, ◌≤◌, List, length, take};
-ghost use Rattle.layout.specs.Limits.{packet_limit};
+ghost use Rattle.wire.specs.Limits.{packet_limit};
 ghost use Rattle.packet.specs.Meanings.{answer_of};
 ghost use Rattle.line.specs.Lines.{LineView};
 ghost use Rattle.rules.specs.State.{Account};
@@ -9,17 +9,16 @@ ghost use Rattle.rules.specs.Frames.{lack, judged, Free};
 ghost use Rattle.rules.specs.Seat.{seat_letters};
 ghost use Rattle.framing.specs.Calling.{Fewer};
 ghost use Rattle.seat.specs.Ends.{side_of};
-ghost use Rattle.standing.specs.Acts.{closing};
+ghost use Rattle.seat.specs.Acts.{closing};
 ghost use Rattle.seat.specs.Receives.{Receives, hears};
 
 use crate::seats::Seat;
-use fault::{Fault, LogFault, PacketFault, Refusal};
 use framing::{fill, is_part, judge};
-use layout::{LogoutReason, PACKET_LIMIT};
 use line::{Line, SteadyLine};
 use message_log::Log;
 use packet::Packet;
 use rules::Received;
+use wire::{Fault, LogFault, LogoutReason, PACKET_LIMIT, PacketFault, Refusal};
 
 impl Seat {
     /// Takes once from the down line, and acts on the packet if that makes one whole. Refuses by `ShortBuffer` and,
@@ -41,7 +40,7 @@ impl Seat {
         if out.len() < PACKET_LIMIT {
             return Err(Refusal::ShortBuffer);
         }
-        if self.standing.is_apart() {
+        if self.state.is_apart() {
             return Err(Refusal::WrongPhase);
         }
         // No `?`: a fault ends the connection here.
@@ -83,18 +82,18 @@ impl Seat {
                 self.filled = filled;
                 Ok(Received::Part)
             }
-            Some(packet) => self.standing.act(packet, log),
+            Some(packet) => self.state.act(packet, log),
         }
     }
 
     // What it says of its frame. Most takes leave a part: it is told first, and no letters are looked up for it.
     #[inline(always)]
     fn judge<'a>(&self, bytes: &'a [u8]) -> Result<Option<Packet<'a>>, PacketFault>
-        ensures { answer_of result ≡ judged (seat_letters self.now.standing.phase self.now.standing.fetch) bytes.now }
+        ensures { answer_of result ≡ judged (seat_letters self.now.state.phase self.now.state.fetch) bytes.now }
     {
         if is_part(bytes) {
             return Ok(None);
         }
-        judge(bytes, self.standing.letters())
+        judge(bytes, self.state.letters())
     }
 }

@@ -4,14 +4,14 @@ ghost use Rattle.std.specs.Prelude.{◌≡◌, ℕ, List};
 ghost use Rattle.rules.specs.Sides.{no_seat};
 ghost use Rattle.seat.specs.Ends.{end_of};
 
-use layout::Status;
+use crate::state::SeatState;
 use rules::SeatPhase;
-use standing::Standing;
+use wire::Status;
 
 /// A seat: where it stands with its connection, its frame and its counts.
 #[derive(Clone, Copy)]
 pub struct Seat {
-    pub(crate) standing: Standing,
+    pub(crate) state: SeatState,
     /// How many bytes of a packet that is not whole yet stand at the front of its frame's buffer, which is lent anew at
     /// each call.
     pub(crate) filled: usize,
@@ -26,7 +26,7 @@ impl Seat {
         ensures { (frame : List ℕ) → end_of result frame ≡ no_seat }
     {
         Seat {
-            standing: Standing::new(),
+            state: SeatState::new(),
             filled: 0,
             unsent: 0,
             silent: 0,
@@ -37,20 +37,20 @@ impl Seat {
     pub fn phase(&self) -> SeatPhase
         ensures { (frame : List ℕ) → result ≡ (end_of self.now frame).phase }
     {
-        self.standing.phase()
+        self.state.phase()
     }
 
     /// Whether it has reported itself in step since the connect: that it holds all that was published.
     pub fn in_step(&self) -> bool
         ensures { (frame : List ℕ) → result ≡ (end_of self.now frame).in_step }
     {
-        self.standing.in_step()
+        self.state.in_step()
     }
 
     /// The status that rejected its login, if one did.
     pub fn status(&self) -> Option<Status>
         ensures { (frame : List ℕ) → result ≡ (end_of self.now frame).status }
     {
-        self.standing.status()
+        self.state.status()
     }
 }

@@ -1,7 +1,7 @@
 //! What the seat writes.
 //! What is due is decided first, and written then.
 ghost use Rattle.std.specs.Prelude.{◌≡◌, ℕ, ◌≤◌, List, [], length};
-ghost use Rattle.layout.specs.Limits.{packet_limit};
+ghost use Rattle.wire.specs.Limits.{packet_limit};
 ghost use Rattle.line.specs.Lines.{LineView};
 ghost use Rattle.message_log.specs.Meaning.{Meaning};
 ghost use Rattle.packet.specs.Meanings.{value_of};
@@ -14,12 +14,11 @@ ghost use Rattle.rules.specs.Seat.{seat_gone, seat_sends};
 ghost use Rattle.seat.specs.Ends.{side_of};
 
 use crate::seats::Seat;
-use fault::Refusal;
 use framing::post;
-use layout::{Letter, LogoutReason, PACKET_LIMIT};
 use line::Line;
 use message_log::Log;
 use packet::Packet;
+use wire::{Letter, LogoutReason, PACKET_LIMIT, Refusal};
 
 impl Seat {
     /// Writes what is due, if anything is: a heartbeat, or in a fetch the request, once; and answers its letter.
@@ -36,14 +35,14 @@ impl Seat {
         if out.len() < PACKET_LIMIT {
             return Err(Refusal::ShortBuffer);
         }
-        if self.standing.is_apart() {
+        if self.state.is_apart() {
             return Err(Refusal::WrongPhase);
         }
-        let Some(due) = self.standing.due(self.unsent, log) else {
+        let Some(due) = self.state.due(self.unsent, log) else {
             return Ok(None);
         };
         self.write(due.packet, up, out)?;
-        self.standing.set_requested(due.requested);
+        self.state.set_requested(due.requested);
         Ok(Some(due.packet.letter()))
     }
 
@@ -71,7 +70,7 @@ impl Seat {
         ensures { (log : Meaning) (down : LineView) (account : Account) (frame : List ℕ) → side_of self.new log (U.Line.view up.new) down account frame out.new ≡ seat_gone reason (side_of self.old log (U.Line.view up.old) down account frame out.old) }
     {
         let _ = self.write(logout(reason), up, out);
-        self.standing.part();
+        self.state.part();
     }
 }
 

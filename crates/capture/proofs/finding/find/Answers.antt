@@ -1,9 +1,9 @@
 use Rattle.std.proofs.Common.{◌≡◌, ℕ, List, ◌++◌, length, drop, Some, None, Ok, Option, Result, MatchOption, sym, refl, ap, ◌∙◌, subst, rules}
 use Rattle.std.proofs.lemmas.Result.{err_from_is_err_and}
 use Rattle.packet.specs.Values.{Value, encode}
-use Rattle.fault.specs.declared.faults.PacketFault.{PacketFault}
+use Rattle.wire.specs.declared.faults.PacketFault.{PacketFault}
 use Rattle.packet.specs.declared.packets.Packet.{Packet}
-use Rattle.packet.specs.Decoding.{Answer, decode, packet_length, part, whole}
+use Rattle.packet.specs.Decoding.{Decoded, decode, packet_length, part, whole}
 use Rattle.packet.specs.Laws.{Front}
 use Rattle.packet.specs.Meanings.{value_of, read_of}
 use Rattle.packet.proofs.Lengths.{length_of_encode, length_fault, length_none, part_short}
@@ -35,7 +35,7 @@ returns-in_default c =
     a_part bs (length_none bs (e ∙ ap (λ (o : Option ℕ). Ok o) c.in_default.is))
 
 -- what was read, seen as the answer
-told : (bs : List ℕ) (size : ℕ) (o : Option Packet) (m : Option Found) → packet_length bs ≡ Ok (Some size) → decode bs ≡ Ok (read_of o) → ((v : Value) → ◌≡◌ {A = Result Answer PacketFault} (Ok (read_of o)) (Ok (whole v)) → Front v bs) → MatchOption o (m ≡ None) (λ p. m ≡ Some (record { packet = p; size = size })) → Tells bs (Ok m)
+told : (bs : List ℕ) (size : ℕ) (o : Option Packet) (m : Option Found) → packet_length bs ≡ Ok (Some size) → decode bs ≡ Ok (read_of o) → ((v : Value) → ◌≡◌ {A = Result Decoded PacketFault} (Ok (read_of o)) (Ok (whole v)) → Front v bs) → MatchOption o (m ≡ None) (λ p. m ≡ Some (record { packet = p; size = size })) → Tells bs (Ok m)
 told bs size None m l e f h = rw h (a_part bs e)
 told bs size (Some p) m l e f h = rw h (a_packet bs (value_of p) size e (f (value_of p) refl) l)
 

@@ -1,6 +1,6 @@
 use Rattle.std.proofs.Common.{◌≡◌, ◌-◌, length, take, drop, refl, ◌∙◌, arith, length-drop, length-take, rules}
 use Rattle.message_log.specs.Meaning.{nth}
-use Rattle.memory.proofs.Laid.{overlaid_is}
+use Rattle.wire.proofs.Laid.{overlaid_is}
 use Rattle.framing.proofs.Messages.{message_laid, read_held}
 use Rattle.framing.proofs.posting.lay_message.Goals as goal
 

@@ -2,7 +2,7 @@ use Rattle.std.proofs.Common.{◌≡◌, ℕ, ◌+◌, ◌++◌, length, drop, s
 use Rattle.message_log.specs.Meaning.{nth}
 use Rattle.packet.specs.Values.{sequenced, encode}
 use Rattle.std.proofs.lemmas.Bool.{cond-false}
-use Rattle.fault.specs.declared.refusals.Refusal.TheVariants.{LineFull}
+use Rattle.wire.specs.declared.refusals.Refusal.TheVariants.{LineFull}
 use Rattle.framing.specs.Posting.{posting_message}
 use Rattle.framing.proofs.Posts.{posted, refused, lacking}
 use Rattle.framing.proofs.Messages.{held, message_size, message_posting}

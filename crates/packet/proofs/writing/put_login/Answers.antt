@@ -1,6 +1,6 @@
 use Rattle.std.proofs.Common.{◌≡◌, ◌≤◌, [], ◌∷◌, ◌++◌, length, ap, ◌∙◌, append_assoc, arith, length-append}
-use Rattle.layout.specs.Numbers.{little}
-use Rattle.memory.specs.Memory.{laid}
+use Rattle.wire.specs.Numbers.{little}
+use Rattle.wire.specs.Overlay.{laid}
 use Rattle.packet.proofs.Laying.{then}
 use Rattle.packet.proofs.writing.put_login.Goals as goal
 

@@ -1,13 +1,13 @@
 use Rattle.std.proofs.Common.{◌+◌, ◌-◌, List, take, Ok, Err, Option, Result, sym, ap, ◌∙◌}
 use Rattle.std.proofs.lemmas.Result.{err_from_is_err_and}
-use Rattle.fault.specs.declared.faults.PacketFault.{PacketFault}
-use Rattle.layout.specs.declared.letters.Letter.{Letter}
+use Rattle.wire.specs.declared.faults.PacketFault.{PacketFault}
+use Rattle.wire.specs.declared.letters.Letter.{Letter}
 use Rattle.packet.specs.declared.packets.Packet.{Packet}
 use Rattle.packet.specs.Decoding.{part, whole}
 use Rattle.packet.specs.Meanings.{answer_of, value_of}
 use Rattle.rules.specs.declared.answers.Received.{Received}
 use Rattle.rules.specs.Frames.{judged}
-use Rattle.footing.specs.Acts.{closing}
+use Rattle.hub.specs.Acts.{closing}
 use Rattle.hub.specs.Ends.{side_of}
 use Rattle.hub.proofs.Frames.{hears_judged, taken}
 use Rattle.hub.proofs.hubs.Hub.hear.Goals as goal

@@ -1,15 +1,15 @@
 use Rattle.std.proofs.Common.{List, Some, Err, Option, sym, ap, refl, ◌∙◌, arith}
 use Rattle.std.proofs.lemmas.Result.{err_from_is_err_and}
 use Rattle.account.specs.declared.rows.Row.{Row}
-use Rattle.layout.specs.declared.letters.Letter.{Letter}
+use Rattle.wire.specs.declared.letters.Letter.{Letter}
 use Rattle.message_log.specs.Meaning.{nth}
 use Rattle.packet.specs.Meanings.{value_of}
 use Rattle.packet.specs.Values.{sequenced}
 use Rattle.rules.specs.declared.phases.HubPhase.TheVariants.{Shut}
 use Rattle.rules.specs.State.{Pair}
 use Rattle.rules.specs.Changes.{grants, hub_leaves}
-use Rattle.footing.specs.declared.footings.Footing.{Footing}
-use Rattle.footing.specs.Footings.{left_in}
+use Rattle.hub.specs.declared.state.HubState.{HubState}
+use Rattle.hub.specs.State.{left_in}
 use Rattle.hub.specs.Ends.{side_of}
 use Rattle.hub.proofs.Writes.{sends_none, sends_refused, sends_written}
 use Rattle.hub.proofs.hubs.Hub.send.Goals as goal
@@ -24,11 +24,11 @@ pub returns-in-Shut : goal.returns-in-Shut
 returns-in-Shut g c up frame =
     let a = c.args.self.now in
     let rows = c.args.accounts.now.rows in
-    let side : Footing → List Row → Pair = λ f rows.
-    side_of (record { footing = f; finished = a.finished; filled = a.filled; unsent = a.unsent; silent = a.silent; waited = a.waited }) (g.G.Log.view c.args.log.now) up (g.D.Line.view c.args.down.now) rows frame c.args.out.now in
-    let s = side a.footing rows in
+    let side : HubState → List Row → Pair = λ f rows.
+    side_of (record { state = f; finished = a.finished; filled = a.filled; unsent = a.unsent; silent = a.silent; waited = a.waited }) (g.G.Log.view c.args.log.now) up (g.D.Line.view c.args.down.now) rows frame c.args.out.now in
+    let s = side a.state rows in
     sends_none s _ (hub_leaves Shut s) (omega arith) (sym c.is_shut.ensures ∙ c.if-is_shut.false) (c.in-Shut.ensures.due rows s refl refl)
-    (ap (λ (f : Footing). side f c.leave.new.accounts.rows) c.leave.ensures.after ∙ ap (side (left_in Shut)) c.leave.ensures.rows)
+    (ap (λ (f : HubState). side f c.leave.new.accounts.rows) c.leave.ensures.after ∙ ap (side (left_in Shut)) c.leave.ensures.rows)
 
 pub returns-in_err-write_message-in-Message : goal.returns-in_err-write_message-in-Message
 returns-in_err-write_message-in-Message g c up frame =
@@ -66,7 +66,7 @@ returns-in_ok-write-in-Packet g c up frame =
     let w = c.write.new.self in
     let s = side_of c.args.self.now log up (g.D.Line.view c.args.down.now) rows frame c.args.out.now in
     let t = side_of w log up (g.D.Line.view c.write.new.down) rows frame c.write.new.out in
-    let u = side_of (record { footing = c.enter-in-Packet.new.self; finished = w.finished; filled = w.filled; unsent = w.unsent; silent = w.silent; waited = w.waited }) log up (g.D.Line.view c.write.new.down) c.enter-in-Packet.new.accounts.rows frame c.write.new.out in
+    let u = side_of (record { state = c.enter-in-Packet.new.self; finished = w.finished; filled = w.filled; unsent = w.unsent; silent = w.silent; waited = w.waited }) log up (g.D.Line.view c.write.new.down) c.enter-in-Packet.new.accounts.rows frame c.write.new.out in
     ap (λ (l : Letter). grants {R = Option Letter} (Some l) u) c.letter.ensures
     ∙ sends_written s t u (value_of c.in-Packet.packet) c.in-Packet.then c.in_ok-write-in-Packet.field-0 (omega arith) (sym c.is_shut.ensures ∙ c.if-is_shut.false) (c.in-Packet.ensures.due rows s refl refl)
     (sym c.write.ensures.answer ∙ c.in_ok-write-in-Packet.was) (c.write.ensures.after log up rows frame) (c.enter-in-Packet.ensures log t)

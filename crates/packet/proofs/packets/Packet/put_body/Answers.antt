@@ -1,9 +1,9 @@
 use Rattle.std.proofs.Common.{ℕ, List, ◌++◌, sym, ap, ◌∙◌, subst, arith, length-append}
-use Rattle.layout.specs.Numbers.{little}
+use Rattle.wire.specs.Numbers.{little}
 use Rattle.packet.specs.declared.packets.Packet.{Packet}
 use Rattle.packet.specs.Meanings.{value_of}
 use Rattle.packet.specs.Values.{Fields, body}
-use Rattle.memory.specs.Memory.{laid}
+use Rattle.wire.specs.Overlay.{laid}
 use Rattle.packet.proofs.packets.Packet.put_body.Goals as goal
 
 pub put_login-requires : goal.put_login-requires

@@ -1,6 +1,6 @@
 use Rattle.std.proofs.Common.{◌+◌, ◌≤◌, length, refl, ap, ◌∙◌, arith}
 use Rattle.std.proofs.lemmas.Result.{err_from_is_err_and}
-use Rattle.layout.specs.Letters.{letter_byte}
+use Rattle.wire.specs.Letters.{letter_byte}
 use Rattle.packet.specs.Meanings.{value_of}
 use Rattle.packet.specs.Values.{length_number}
 use Rattle.packet.proofs.Writes.{refused_bad, granted, wrote}

@@ -1,6 +1,6 @@
 use Rattle.std.proofs.Common.{length, ap, sym, ◌∙◌, arith}
 use Rattle.std.proofs.lemmas.Bool.{le-ltb}
-use Rattle.layout.specs.Limits.{packet_limit}
+use Rattle.wire.specs.Limits.{packet_limit}
 use Rattle.rules.specs.State.{Pair}
 use Rattle.rules.specs.SetUp.{Parts}
 use Rattle.hub.specs.Ends.{unfinished}

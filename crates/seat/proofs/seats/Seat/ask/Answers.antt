@@ -1,8 +1,8 @@
 use Rattle.std.proofs.Common.{◌≡◌, true, false, length, Err, Result, refl, ap, ◌∙◌, arith, rules}
 use Rattle.std.proofs.lemmas.Result.{err_from_is_err_and}
 use Rattle.std.proofs.lemmas.Bool.{cond-true, le-ltb}
-use Rattle.fault.specs.declared.refusals.Refusal.{Refusal}
-use Rattle.layout.specs.Limits.{packet_limit}
+use Rattle.wire.specs.declared.refusals.Refusal.{Refusal}
+use Rattle.wire.specs.Limits.{packet_limit}
 use Rattle.packet.specs.Values.{encode, login_request}
 use Rattle.line.specs.Lines.{LineView, cleared, fits}
 use Rattle.account.specs.Logins.{spoken_version}
@@ -35,7 +35,7 @@ returns g c down frame =
     let d : length a.computer ≡ 8 = search rules in
     let p : length a.protocol ≡ 8 = search rules in
     let seat = c.args.self.now in
-    let begun : Seat = record { standing = c.asking.result; filled = 0; unsent = 0; silent = 0 } in
+    let begun : Seat = record { state = c.asking.result; filled = 0; unsent = 0; silent = 0 } in
     let up = g.U.Line.view c.args.up.now in
     let cleaned = g.U.Line.view c.clear.new.self in
     let up' = g.U.Line.view c.write.new.up in

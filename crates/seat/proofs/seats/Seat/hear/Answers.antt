@@ -1,11 +1,11 @@
 use Rattle.std.proofs.Common.{Ok, Err, Option, Result, sym, ap, ◌∙◌}
 use Rattle.std.proofs.lemmas.Result.{err_from_is_err_and}
-use Rattle.fault.specs.declared.faults.Fault.{Fault}
+use Rattle.wire.specs.declared.faults.Fault.{Fault}
 use Rattle.packet.specs.declared.packets.Packet.{Packet}
 use Rattle.packet.specs.Decoding.{part, whole}
 use Rattle.packet.specs.Meanings.{answer_of, value_of}
 use Rattle.rules.specs.declared.answers.Received.{Received}
-use Rattle.standing.specs.Acts.{closing}
+use Rattle.seat.specs.Acts.{closing}
 use Rattle.seat.specs.Ends.{side_of}
 use Rattle.seat.proofs.Frames.{hears_judged, taken}
 use Rattle.seat.proofs.seats.Seat.hear.Goals as goal

@@ -1,7 +1,7 @@
 use Rattle.std.proofs.Common.{◌≡◌, false, length, Ok, Result, sym, ap, ◌∙◌, arith}
 use Rattle.std.proofs.lemmas.Bool.{cond-true, le-ltb}
-use Rattle.fault.specs.declared.refusals.Refusal.{Refusal}
-use Rattle.layout.specs.Limits.{packet_limit}
+use Rattle.wire.specs.declared.refusals.Refusal.{Refusal}
+use Rattle.wire.specs.Limits.{packet_limit}
 use Rattle.rules.specs.State.{Pair}
 use Rattle.rules.specs.Rounds.{too_short}
 use Rattle.framing.specs.Calling.{answered}

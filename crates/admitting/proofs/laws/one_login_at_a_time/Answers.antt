@@ -1,5 +1,0 @@
-use Rattle.admitting.proofs.Runs.{one_at_a_time}
-use Rattle.admitting.proofs.laws.one_login_at_a_time.Goals as goal
-
-pub returns : goal.returns
-returns c = one_at_a_time

@@ -1,5 +1,0 @@
-use Rattle.astray.proofs.Early.{early_complete_lies}
-use Rattle.astray.proofs.early_complete_lies.Goals as goal
-
-pub returns : goal.returns
-returns c = early_complete_lies

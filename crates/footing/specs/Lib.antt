@@ -1,3 +1,0 @@
-pub mod Footings
-pub mod Acts
-pub mod Dues

@@ -1,2 +1,0 @@
-pub mod Pooled
-pub mod Sounds

@@ -1,2 +1,0 @@
-pub mod Laying
-pub mod Forms

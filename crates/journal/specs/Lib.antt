@@ -1,5 +1,0 @@
-pub mod Layout
-pub mod Opening
-pub mod Laws
-pub mod Examples
-pub mod Sounds

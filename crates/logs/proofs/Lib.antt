@@ -1,0 +1,3 @@
+pub mod Laying
+pub mod Forms
+pub mod Framed

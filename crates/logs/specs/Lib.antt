@@ -1,0 +1,12 @@
+pub mod Kinds
+pub mod Pooled
+pub mod IndexedSound
+pub mod Layout
+pub mod Opening
+pub mod JournalLaws
+pub mod JournalExamples
+pub mod JournalSound
+pub mod Format
+pub mod Reading
+pub mod RecordLaws
+pub mod Seen

@@ -1,8 +1,0 @@
-use native.Mathlib.Omega.{arith}
-use Rattle.paced.specs.Views.{paced_take}
-use Rattle.paced.proofs.pacing.PacedLine.take.Goals as goal
-
-pub returns : goal.returns
-returns g c =
-    paced_take c.args.buffer.now c.args.self.now.pace c.min-most.result c.take.ensures
-    (omega (arith, c.min-most.ensures))

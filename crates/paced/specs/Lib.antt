@@ -1,2 +1,0 @@
-pub mod Pacing
-pub mod Views

@@ -1,3 +1,0 @@
-pub mod Bytes
-pub mod Parts
-pub mod Kept

@@ -1,3 +1,0 @@
-pub mod Tallies
-pub mod Pumping
-pub mod Pumpers

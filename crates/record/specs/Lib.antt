@@ -1,4 +1,0 @@
-pub mod Format
-pub mod Reading
-pub mod Laws
-pub mod Seen

@@ -1,0 +1,4 @@
+pub mod Counting
+pub mod Actions
+pub mod Lines
+pub mod Stages

@@ -1,3 +1,0 @@
-pub mod Rings
-pub mod Views
-pub mod Rounds

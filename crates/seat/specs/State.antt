@@ -1,0 +1,48 @@
+-- What it means where a seat stands.
+use Rattle.std.specs.Prelude.{Bool, false, Some, None, Option}
+use Rattle.message_log.specs.Meaning.{Meaning}
+use Rattle.packet.specs.Meanings.{value_of}
+use Rattle.packet.specs.Values.{Valid}
+use Rattle.rules.specs.declared.phases.SeatPhase.TheVariants.{Apart}
+use Rattle.rules.specs.State.{Pair}
+use Rattle.rules.specs.Hub as Hub
+use Rattle.seat.specs.declared.state.SeatState.{SeatState}
+use Rattle.seat.specs.declared.dues.Due.{Due}
+
+-- with no connection, and nothing asked for
+abbrev pub apart : SeatState
+apart = record { phase = Apart; session = 0; number = 0; fetch = None; requested = false; in_step = false; status = None }
+
+-- a pair whose seat stands so and has this log: its frame, its counts and all else are those of the pair
+abbrev pub stands_in : SeatState → Meaning → Pair → Pair
+stands_in s log p =
+    record {
+      running = p.running;
+      hub = p.hub;
+      seat = record { phase = s.phase; session = s.session; number = s.number; fetch = s.fetch; requested = s.requested; in_step = s.in_step; status = s.status; frame = p.seat.frame; unsent = p.seat.unsent; silent = p.seat.silent };
+      held = log;
+      up = p.up;
+      down = p.down;
+      rows = p.rows;
+      account = p.account;
+      buffers = p.buffers;
+    }
+
+-- with its connection ended, or with its fetch requested or not
+abbrev pub parted : SeatState → SeatState
+parted s =
+    record { phase = Apart; session = s.session; number = s.number; fetch = s.fetch; requested = s.requested; in_step = s.in_step; status = s.status }
+
+abbrev pub with_requested : Bool → SeatState → SeatState
+with_requested requested s =
+    record { phase = s.phase; session = s.session; number = s.number; fetch = s.fetch; requested = requested; in_step = s.in_step; status = s.status }
+
+-- what is due, in the words of the rules
+abbrev pub due_of : Option Due → SeatState → Meaning → Pair → Hub.Due
+due_of None s log p = Hub.none_due (stands_in s log p)
+due_of (Some d) s log p = Hub.due (value_of d.packet) (stands_in (with_requested d.requested s) log p)
+
+-- it can be written
+abbrev pub Writable : Option Due → Type 0
+Writable None = Unit {0}
+Writable (Some d) = Valid (value_of d.packet)

@@ -1,5 +1,0 @@
-use Rattle.staging.specs.Deeds.{Ticked}
-use Rattle.staging.proofs.stages.tick.Given as goal
-
-abbrev pub invariant-loop : goal.invariant-loop
-invariant-loop l = Ticked l.initial.play.pair l.initial.sums l.counter l.play.pair l.sums

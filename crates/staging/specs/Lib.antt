@@ -1,4 +1,0 @@
-pub mod Counting
-pub mod Deeds
-pub mod Lines
-pub mod Stages

@@ -1,2 +1,0 @@
-pub mod Straights
-pub mod Views

@@ -1,0 +1,9 @@
+pub mod Faults
+pub mod Refusals
+pub mod Making
+pub mod Limits
+pub mod Numbers
+pub mod Coded
+pub mod Letters
+pub mod Codes
+pub mod Overlay

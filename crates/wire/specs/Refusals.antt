@@ -1,0 +1,24 @@
+-- The numbers of the refusals: from 11 what a call was given, from 21 what it met.
+use Rattle.std.specs.Prelude.{ℕ}
+use Rattle.wire.specs.declared.refusals.Refusal.{Refusal}
+use Rattle.wire.specs.declared.refusals.Refusal.TheVariants.{MessageTooLong, SessionZero, NoSuchMessage, ShortBuffer, SizeOutOfRange, BadAccountField, BrokenLog, BadPacket, LogFull, LineFull, WrongPhase, SessionFinished, HubBusy, LastSession, NoSession, NothingToFetch, AccountTaken, OutOfMemory}
+
+abbrev pub number : Refusal → ℕ
+number MessageTooLong = 11
+number SessionZero = 12
+number NoSuchMessage = 13
+number ShortBuffer = 14
+number SizeOutOfRange = 15
+number BadAccountField = 16
+number (BrokenLog place) = 17
+number (BadPacket fault) = 18
+number LogFull = 21
+number LineFull = 22
+number WrongPhase = 23
+number SessionFinished = 24
+number HubBusy = 25
+number LastSession = 26
+number NoSession = 27
+number NothingToFetch = 28
+number AccountTaken = 29
+number OutOfMemory = 30
