@@ -11,7 +11,7 @@ use crate::pairs::Pair;
 use line::SteadyLine;
 use message_log::Log;
 use rules::{Heard, Received, Report};
-use wire::{Fault, LogFault, PACKET_LIMIT, Refusal};
+use wire::{Fault, PACKET_LIMIT, Refusal};
 
 // What a receive's answer means for a round.
 enum Going {
@@ -31,9 +31,7 @@ impl Going {
             Ok(Received::Part) => Going::Continue(0),
             Ok(Received::Acted(_)) => Going::Continue(1),
             Ok(Received::Message { .. }) => Going::Continue(1),
-            Err(Refusal::BadPacket(fault)) => Going::Stop(Some(Fault::Packet(fault))),
-            Err(Refusal::LogFull) => Going::Stop(Some(Fault::Log(LogFault::Full))),
-            Err(_) => Going::Stop(None),
+            Err(refusal) => Going::Stop(refusal.fault()),
         }
     }
 }

@@ -1,10 +1,9 @@
 -- Receives with what is free in them, rounds, and the calls together.
 use Rattle.std.specs.Prelude.{◌≡◌, ℕ, ◌+◌, Bool, true, false, ◌&&◌, ◌||◌, List, length, Some, None, Ok, Err, Option, Result, nat_le, nat_lt}
 use Rattle.wire.specs.declared.faults.Fault.{Fault}
-use Rattle.wire.specs.declared.faults.Fault.TheVariants as F
-use Rattle.wire.specs.declared.faults.LogFault.TheVariants.{Full}
 use Rattle.wire.specs.declared.refusals.Refusal.{Refusal}
-use Rattle.wire.specs.declared.refusals.Refusal.TheVariants.{MessageTooLong, SessionZero, NoSuchMessage, ShortBuffer, SizeOutOfRange, BadAccountField, BrokenLog, BadPacket, LogFull, LineFull, WrongPhase, SessionFinished, HubBusy, LastSession, NoSession, NothingToFetch, AccountTaken, OutOfMemory}
+use Rattle.wire.specs.declared.refusals.Refusal.TheVariants.{ShortBuffer, WrongPhase}
+use Rattle.wire.specs.Refusals.{fault_of}
 use Rattle.wire.specs.Limits.{message_limit, packet_limit}
 use Rattle.packet.specs.Values.{Value}
 use Rattle.rules.specs.declared.phases.How.{How}
@@ -31,27 +30,6 @@ pub data SeatReceives (s : Pair) : Outcome Received → Type 0 where
   seat_deaf : is_apart s.seat.phase ≡ true → SeatReceives s (refuses WrongPhase s)
   seat_hears_bytes : (room : ℕ) → is_apart s.seat.phase ≡ false → Free s.down (lack s.seat.frame) room →
       SeatReceives s (seat_hears (given s.down (lack s.seat.frame)) (left s.down (lack s.seat.frame) room) s)
-
--- the fault that a refusal of a receive tells
-abbrev pub fault_of : Refusal → Option Fault
-fault_of MessageTooLong = None
-fault_of SessionZero = None
-fault_of NoSuchMessage = None
-fault_of ShortBuffer = None
-fault_of SizeOutOfRange = None
-fault_of BadAccountField = None
-fault_of (BrokenLog place) = None
-fault_of (BadPacket fault) = Some (F.Packet fault)
-fault_of LogFull = Some (F.Log Full)
-fault_of LineFull = None
-fault_of WrongPhase = None
-fault_of SessionFinished = None
-fault_of HubBusy = None
-fault_of LastSession = None
-fault_of NoSession = None
-fault_of NothingToFetch = None
-fault_of AccountTaken = None
-fault_of OutOfMemory = None
 
 -- what a receive's answer means for a round: the receives end, or go on with so many packets acted on more
 pub data Going : Type 0 where

@@ -1,9 +1,9 @@
 //! Refusals, and the numbers by which other programs know them.
 ghost use Rattle.std.specs.Prelude.{◌≡◌};
-ghost use Rattle.wire.specs.Refusals.{number};
+ghost use Rattle.wire.specs.Refusals.{number, fault_of, refusal_of};
 ghost use Rattle.wire.specs.declared.refusals.Refusal.TheVariants as R;
 
-use crate::faults::PacketFault;
+use crate::faults::{Fault, LogFault, PacketFault};
 use std::alloc::AllocError;
 use thiserror::Error;
 
@@ -93,6 +93,17 @@ impl Refusal {
             Refusal::OutOfMemory => 30,
         }
     }
+
+    /// The fault that it tells of, if it tells of one: a bad packet, or a full log.
+    pub fn fault(self) -> Option<Fault>
+        ensures { result ≡ fault_of self }
+    {
+        match self {
+            Refusal::BadPacket(fault) => Some(Fault::Packet(fault)),
+            Refusal::LogFull => Some(Fault::Log(LogFault::Full)),
+            _ => None,
+        }
+    }
 }
 
 // Written out and not derived, as the next one and those of `Fault`: a derived `From` has no contract.
@@ -101,6 +112,25 @@ impl From<PacketFault> for Refusal {
 
     fn from(fault: PacketFault) -> Refusal {
         Refusal::BadPacket(fault)
+    }
+}
+
+impl From<LogFault> for Refusal {
+    ghost from_gives = { λ _ r. r ≡ R.LogFull };
+
+    fn from(_fault: LogFault) -> Refusal {
+        Refusal::LogFull
+    }
+}
+
+impl From<Fault> for Refusal {
+    ghost from_gives = { λ f r. r ≡ refusal_of f };
+
+    fn from(fault: Fault) -> Refusal {
+        match fault {
+            Fault::Packet(fault) => Refusal::from(fault),
+            Fault::Log(fault) => Refusal::from(fault),
+        }
     }
 }
 
