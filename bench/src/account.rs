@@ -120,7 +120,7 @@ impl Accounts {
             .position(|row| row.account.matches(user, computer))
     }
 
-    /// The status of a login at a log of this session and highest number.
+    /// The status of a login, where the log has that session and that highest number.
     pub fn decide(&self, login: &Login, session: u8, highest: u64) -> Status {
         match self.judge(login, session, highest) {
             Ok(_) => Status::Accepted,

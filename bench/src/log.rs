@@ -21,7 +21,7 @@ pub trait Log {
     /// Whether a message of this length would be taken.
     fn would_take(&self, length: usize) -> Result<(), Refusal>;
 
-    /// Drops all messages and bears this session.
+    /// Drops all messages and bears the session given.
     fn begin(&mut self, session: u8) -> Result<(), Refusal>;
 
     fn append(&mut self, message: &[u8]) -> Result<(), Refusal>;

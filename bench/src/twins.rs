@@ -1,4 +1,4 @@
-//! The scenarios of `crates/scenarios`, over this crate: the same work, and so the same sums.
+//! The scenarios of `crates/export`, over this crate: the same work, and so the same sums.
 
 use crate::account::Accounts;
 use crate::fault::{Refusal, Unmade};
