@@ -23,7 +23,7 @@ use Rattle.hub.specs.Receives.{hears}
 
 -- the hub once it took bytes: so many stand in its frame
 abbrev pub taken : ℕ → Hub → Hub
-taken m h = record { state = h.state; finished = h.finished; filled = m; unsent = h.unsent; silent = 0; waited = h.waited }
+taken m h = record h { filled = m; silent = 0 }
 
 took : (hub : Hub) (log : Meaning) (v w down : LineView) (rows : List Row) (buf buf' out g frame : List ℕ) (m : ℕ) →
     buf' ≡ laid buf (length (take hub.filled buf)) g → take m buf' ≡ frame →

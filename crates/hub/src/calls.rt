@@ -80,7 +80,6 @@ impl Hub {
 
     /// A tick passes: the counts go up. A hub that serves ends a connection that was silent for too long, and one that
     /// waited too long for a login says goodbye. Refuses by `ShortBuffer`, with nothing changed.
-    #[tactic(auto, using(crate::proofs::Asks::times_granted))]
     pub fn tick<D: Line>(
         &mut self,
         accounts: &mut Accounts,

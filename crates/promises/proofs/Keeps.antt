@@ -31,7 +31,6 @@ use Rattle.rules.specs.Hub.{hub_gone, first_number, owes, Sending, hub_sends}
 use Rattle.rules.specs.Seat.{next_number, is_apart, seat_letters, seat_sends}
 use Rattle.rules.specs.Calls.{Done, counted, hub_timed, tick, is_serving}
 use Rattle.rules.specs.declared.answers.Answer.{Answer}
-use Rattle.rules.specs.declared.answers.Answer.TheVariants as Answer
 use Rattle.rules.specs.Rounds.{HubReceives, SeatReceives, Drains, ends, more, Rounds, Call, Connect, Cut, Publish, Finish, Roll, Tell, Say, Leave, HubReceive, SeatReceive, HubSend, SeatSend, Tick, Round, Effect, Step, short_buffer, connects, cuts, publishes, finishes, rolls, tells, says, leaves, hub_receives, seat_receives, hub_sends_one, seat_sends_one, ticks, rounds, refusal}
 use Rattle.promises.specs.Book.{Message, Book, opened, added, turned, noted}
 use Rattle.promises.specs.Runs.{IsPrefix, World, Run, begins, goes_on, SetUp, History}

@@ -8,7 +8,7 @@ use Rattle.wire.specs.declared.refusals.Refusal.{Refusal}
 use Rattle.wire.specs.declared.refusals.Refusal.TheVariants.{ShortBuffer}
 use Rattle.wire.specs.declared.letters.Letter.{Letter}
 use Rattle.wire.specs.declared.statuses.Status.{Status}
-use Rattle.wire.specs.declared.statuses.Status.TheVariants.{Accepted, UnknownUser, SessionUnavailable, InvalidNumber, WrongVersion, WrongProtocol, AlreadyLoggedIn}
+use Rattle.wire.specs.declared.statuses.Status.TheVariants.{Accepted}
 use Rattle.wire.specs.declared.goodbyes.GoodByeReason.{GoodByeReason}
 use Rattle.wire.specs.declared.goodbyes.GoodByeReason.TheVariants as G
 use Rattle.wire.specs.declared.logouts.LogoutReason.TheVariants as X
@@ -35,7 +35,6 @@ use Rattle.rules.specs.Hub.{hub_gone, hub_letters, first_number, owes, Sending, 
 use Rattle.rules.specs.Seat.{seat_gone, in_session, next_number, is_apart, seat_letters, seat_sends}
 use Rattle.rules.specs.Calls.{Done, cut, counted, hub_timed, tick, busy, is_serving, is_live, connected, fetch_end}
 use Rattle.rules.specs.declared.answers.Answer.{Answer}
-use Rattle.rules.specs.declared.answers.Answer.TheVariants as Answer
 use Rattle.rules.specs.Rounds.{HubReceives, SeatReceives, Drains, ends, more, Rounds, Call, Connect, Cut, Publish, Finish, Roll, Tell, Say, Leave, HubReceive, SeatReceive, HubSend, SeatSend, Tick, Round, Effect, Step, short_buffer, connects, cuts, publishes, finishes, rolls, tells, says, leaves, hub_receives, seat_receives, hub_sends_one, seat_sends_one, ticks, rounds, refusal}
 use Rattle.promises.specs.Book.{Message, Book, opened, added, turned, noted}
 use Rattle.promises.specs.Runs.{IsPrefix, Note, accepts, written, renoted, World, Run, begins, goes_on, SetUp, History}
@@ -53,12 +52,7 @@ use Rattle.promises.proofs.Truth.{View, view, hubbed, its_login, Leads, goal, St
 
 not_accepts : (x : Status) → (x ≡ Accepted → ⊥) → accepts x ≡ false
 not_accepts Accepted ne = absurd (ne refl)
-not_accepts UnknownUser ne = refl
-not_accepts SessionUnavailable ne = refl
-not_accepts InvalidNumber ne = refl
-not_accepts WrongVersion ne = refl
-not_accepts WrongProtocol ne = refl
-not_accepts AlreadyLoggedIn ne = refl
+not_accepts status ne = refl
 
 -- all is sent where the next number is not held
 past_all : (k : Meaning) (n : ℕ) → 0 < n → has k n ≡ false → count k < n

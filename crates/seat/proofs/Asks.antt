@@ -14,7 +14,7 @@ use Rattle.rules.specs.declared.phases.How.{How}
 use Rattle.rules.specs.declared.phases.How.TheVariants.{Join, Anew, Fetch}
 use Rattle.rules.specs.declared.phases.SeatPhase.TheVariants.{Apart, Live}
 use Rattle.rules.specs.State.{Account, Pair}
-use Rattle.rules.specs.Changes.{refuses, with_seat, seat_to, seat_tells, seat_writes}
+use Rattle.rules.specs.Changes.{refuses, seat_to, seat_tells, seat_writes}
 use Rattle.rules.specs.Calls.{Done, done, connect, connected, asking, is_live, leave}
 use Rattle.rules.specs.Rounds.{too_short}
 use Rattle.rules.specs.Seat.{is_apart, seat_gone}
@@ -75,7 +75,7 @@ asks_refused how s e a h k =
 -- with frame and counts cleared
 abbrev pub emptied : Pair → Pair
 emptied s =
-    with_seat s (record { phase = s.seat.phase; session = s.seat.session; number = s.seat.number; fetch = s.seat.fetch; requested = s.seat.requested; in_step = s.seat.in_step; status = s.seat.status; frame = []; unsent = 0; silent = 0 })
+    record s { seat = record s.seat { frame = []; unsent = 0; silent = 0 } }
 
 -- the seat is new, and has written its login on the cleared line
 pub asks_granted : (how : How) (seat begun written : Seat) (log : Meaning) (up cleaned up' down : LineView) (account : Account) (frame out out' : List ℕ) (x : Unit {0}) (session number : ℕ) → session ≡ begun.state.session → number ≡ begun.state.number →

@@ -22,7 +22,7 @@ use Rattle.seat.specs.Receives.{hears}
 
 -- the seat once it took bytes: so many stand in its frame
 abbrev pub taken : ℕ → Seat → Seat
-taken m s = record { state = s.state; filled = m; unsent = s.unsent; silent = 0 }
+taken m s = record s { filled = m; silent = 0 }
 
 took : (seat : Seat) (log : Meaning) (up v w : LineView) (account : Account) (buf buf' out g frame : List ℕ) (m : ℕ) →
     buf' ≡ laid buf (length (take seat.filled buf)) g → take m buf' ≡ frame →

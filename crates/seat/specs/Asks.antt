@@ -7,7 +7,7 @@ use Rattle.rules.specs.State.{Account as Fields, Pair}
 use Rattle.rules.specs.Changes.{refuses}
 use Rattle.rules.specs.Calls.{Done, connect, say}
 use Rattle.rules.specs.Rounds.{Say, lent_short}
-use Rattle.rules.specs.Sides.{seat_side_of}
+use Rattle.rules.specs.Sides.{seat_side_of, on_side}
 
 -- the fields of an account
 abbrev pub fields_of : Account → Fields
@@ -15,7 +15,7 @@ fields_of a = record { user = a.user; computer = a.computer; protocol = a.protoc
 
 -- a connect, on the seat's side
 abbrev pub asks : How → Pair → Done
-asks how s = record { answer = (connect how s).answer; after = seat_side_of (connect how s).after }
+asks how s = on_side seat_side_of (connect how s)
 
 -- a message that is too long is told before a short buffer
 abbrev pub says : List ℕ → Pair → Done
