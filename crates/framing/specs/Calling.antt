@@ -22,5 +22,5 @@ abbrev pub Fewer : {E : Type 0} → Result Received E → LineView → LineView 
 Fewer (Ok A.Nothing) line after = Unit {0}
 Fewer (Ok A.Part) line after = length after.waiting < length line.waiting
 Fewer (Ok (A.Acted letter)) line after = length after.waiting < length line.waiting
-Fewer (Ok (A.Message place long)) line after = length after.waiting < length line.waiting
+Fewer (Ok (A.Message offset long)) line after = length after.waiting < length line.waiting
 Fewer (Err refusal) line after = Unit {0}

@@ -17,8 +17,8 @@ abbrev pub shut : HubState
 shut = left_in Shut
 
 -- a pair whose hub stands so, with this log and these rows: frame, counts and all else are those of the pair
-abbrev pub stands_in : HubState → Meaning → List Row → Pair → Pair
-stands_in f log rows p =
+abbrev pub with_state : HubState → Meaning → List Row → Pair → Pair
+with_state f log rows p =
     record p {
       running = record p.running { log = log };
       hub = record p.hub { phase = f.phase; row = f.row };

@@ -35,7 +35,7 @@ use Rattle.rules.specs.declared.answers.Received.TheVariants.{Nothing, Part, Act
 use Rattle.rules.specs.State.{Pair, Outcome}
 use Rattle.rules.specs.Changes.{with_up, with_down, with_held, with_log, grants, refuses, hub_to, hub_leaves, hub_admits, hub_writes, hub_took, seat_with, seat_to, seat_writes, seat_took}
 use Rattle.rules.specs.Frames.{lack, given, left, Free, judged}
-use Rattle.rules.specs.Hub.{hub_gone, hub_bad, listens, hub_letters, decided, logs_in, admitted, refills, Due, due, none_due, hub_acts, hub_judges, hub_hears, message_place, beat_after, first_number, owes, sent_all, hub_due, Sending, hub_posts, is_shut, hub_sends}
+use Rattle.rules.specs.Hub.{hub_gone, hub_bad, listens, hub_letters, decided, logs_in, admitted, refills, Due, due, none_due, hub_acts, hub_judges, hub_hears, message_offset, beat_after, first_number, owes, sent_all, hub_due, Sending, hub_posts, is_shut, hub_sends}
 use Rattle.rules.specs.Seat.{seat_gone, seat_bad, is_apart, seat_letters, suits, in_session, next_number, seat_rejected, seat_answered, seat_keeps, seat_skips, seat_message, seat_complete, seat_acts, seat_judges, seat_hears, seat_requested, live_due, seat_due, seat_posts, seat_sends}
 use Rattle.rules.specs.Calls.{Done, done, login_of, connected, connect, publishes, publish, finish, busy, last_session, roll, is_serving, is_live, tell, say, leave, hub_timed, seat_timed, waiting_limit, silence_limit}
 use Rattle.rules.specs.Rounds.{HubReceives, hub_deaf, hub_hears_bytes, SeatReceives, seat_deaf, seat_hears_bytes}
@@ -246,7 +246,7 @@ pub data SeatActed (s : Pair) : SeatPhase → Value → Outcome Received → Typ
   seat_passes : (n : ℕ) (m : List ℕ) → n < next_number s.held → SeatActed s Live (sequenced n m) (grants (Acted L.Sequenced) s)
   seat_skips_lem : (n e : ℕ) (m : List ℕ) → s.seat.fetch ≡ Some e → SeatActed s Live (sequenced n m) (grants (Acted L.Sequenced) s)
   seat_completes : s.seat.fetch ≡ None → SeatActed s Live synchronization_complete (grants (Acted L.SynchronizationComplete) (seat_with Live true s.seat.status s))
-  seat_told : (m : List ℕ) → SeatActed s Live (unsequenced m) (grants (Message message_place (length m)) s)
+  seat_told : (m : List ℕ) → SeatActed s Live (unsequenced m) (grants (Message message_offset (length m)) s)
   seat_beaten : SeatActed s Live hub_heartbeat (grants (Acted L.HubHeartbeat) s)
   seat_tested : (t : List ℕ) → SeatActed s Live (test t) (grants (Acted L.Test) s)
 

@@ -17,7 +17,7 @@ use Rattle.rules.specs.declared.answers.Received.{Received}
 use Rattle.rules.specs.declared.answers.Received.TheVariants.{Acted, Message}
 use Rattle.rules.specs.State.{Pair, Outcome}
 use Rattle.rules.specs.Changes.{grants, hub_to, hub_leaves, seat_to}
-use Rattle.rules.specs.Hub.{message_place, hub_bad, logs_in, hub_acts}
+use Rattle.rules.specs.Hub.{message_offset, hub_bad, logs_in, hub_acts}
 use Rattle.rules.specs.Seat.{seat_bad, seat_accepted, seat_rejected, seat_message, seat_complete, seat_acts}
 
 abbrev pub Act : Type 0
@@ -45,7 +45,7 @@ module _ (P : Act → Type 0)
   beating false = shuts (Acted L.SeatHeartbeat)
 
   serving : (asked next : ℕ) (owed : Bool) (v : Value) → P (λ s. hub_acts (Serving asked next owed) v s)
-  serving q n o (unsequenced m) = stays (Message message_place (length m))
+  serving q n o (unsequenced m) = stays (Message message_offset (length m))
   serving q n o (retransmission_request a e) = refilling a e (eqb q 0) (eqb a 0) (ltb e a)
   serving q n o (logout_request r t) = shuts (Acted L.LogoutRequest)
   serving q n o seat_heartbeat = stays (Acted L.SeatHeartbeat)
@@ -53,7 +53,7 @@ module _ (P : Act → Type 0)
   serving q n o v = bad OutOfPlace
 
   filling : (next last : ℕ) (v : Value) → P (λ s. hub_acts (Filling next last) v s)
-  filling n l (unsequenced m) = stays (Message message_place (length m))
+  filling n l (unsequenced m) = stays (Message message_offset (length m))
   filling n l (logout_request r t) = shuts (Acted L.LogoutRequest)
   filling n l seat_heartbeat = beating (leb n l)
   filling n l (test t) = stays (Acted L.Test)
@@ -85,7 +85,7 @@ module _ (P : Act → Type 0)
 
   live : (v : Value) → P (λ s. seat_acts Live v s)
   live (sequenced n m) = reads n m
-  live (unsequenced m) = stays (Message message_place (length m))
+  live (unsequenced m) = stays (Message message_offset (length m))
   live synchronization_complete = completes
   live (good_bye r t) = parts (Acted L.GoodBye)
   live end_of_session = parts (Acted L.EndOfSession)

@@ -27,8 +27,8 @@ use Rattle.rules.specs.Changes.{with_up, grants, refuses, hub_to, hub_leaves, hu
 use Rattle.rules.specs.Frames.{judged}
 
 -- where a message begins in an unsequenced packet: behind the length number and the letter
-abbrev pub message_place : ℕ
-message_place = 3
+abbrev pub message_offset : ℕ
+message_offset = 3
 
 -- the hub says goodbye and is shut
 abbrev pub hub_gone : GoodByeReason → Pair → Pair
@@ -85,7 +85,7 @@ hub_waiting (login_request v u c p session number) s =
 hub_waiting v s = hub_bad OutOfPlace s
 
 abbrev pub hub_serving : ℕ → Value → Pair → Outcome Received
-hub_serving asked (unsequenced m) s = grants (Message message_place (length m)) s
+hub_serving asked (unsequenced m) s = grants (Message message_offset (length m)) s
 hub_serving asked (retransmission_request a e) s = cond (asked == 0) (refills a e s) (hub_bad OutOfPlace s)
 hub_serving asked (logout_request r t) s = grants (Acted L.LogoutRequest) (hub_leaves Shut s)
 hub_serving asked seat_heartbeat s = grants (Acted L.SeatHeartbeat) s
@@ -93,7 +93,7 @@ hub_serving asked (test t) s = grants (Acted L.Test) s
 hub_serving asked v s = hub_bad OutOfPlace s
 
 abbrev pub hub_filling : ℕ → ℕ → Value → Pair → Outcome Received
-hub_filling next last (unsequenced m) s = grants (Message message_place (length m)) s
+hub_filling next last (unsequenced m) s = grants (Message message_offset (length m)) s
 hub_filling next last (logout_request r t) s = grants (Acted L.LogoutRequest) (hub_leaves Shut s)
 hub_filling next last seat_heartbeat s = grants (Acted L.SeatHeartbeat) (beat_while_filling next last s)
 hub_filling next last (test t) s = grants (Acted L.Test) s

@@ -39,7 +39,7 @@ abbrev pub going : Result Received Refusal → Going
 going (Ok Nothing) = stop None
 going (Ok Part) = continue 0
 going (Ok (Acted letter)) = continue 1
-going (Ok (Message place long)) = continue 1
+going (Ok (Message offset long)) = continue 1
 going (Err refusal) = stop (fault_of refusal)
 
 -- An end receives until nothing waits or it is refused: so many packets were acted on, and what was wrong.

@@ -23,7 +23,7 @@ use Rattle.rules.specs.declared.answers.Received.TheVariants.{Nothing, Part, Act
 use Rattle.rules.specs.State.{Pair, Outcome}
 use Rattle.rules.specs.Changes.{with_down, with_held, grants, refuses, seat_to, seat_writes, seat_tells, seat_took}
 use Rattle.rules.specs.Frames.{judged}
-use Rattle.rules.specs.Hub.{message_place, beat_after, Due, due, none_due}
+use Rattle.rules.specs.Hub.{message_offset, beat_after, Due, due, none_due}
 
 -- the seat says why it leaves, and is apart
 abbrev pub seat_gone : LogoutReason → Pair → Pair
@@ -107,7 +107,7 @@ seat_complete (Some end) s = seat_bad OutOfPlace s
 
 abbrev pub seat_live : Value → Pair → Outcome Received
 seat_live (sequenced n m) s = seat_message n m s
-seat_live (unsequenced m) s = grants (Message message_place (length m)) s
+seat_live (unsequenced m) s = grants (Message message_offset (length m)) s
 seat_live synchronization_complete s = seat_complete s.seat.fetch s
 seat_live (good_bye r t) s = grants (Acted L.GoodBye) (seat_to Apart s)
 seat_live end_of_session s = grants (Acted L.EndOfSession) (seat_to Apart s)

@@ -7,7 +7,7 @@ use Rattle.rules.specs.declared.phases.SeatPhase.TheVariants.{Apart}
 use Rattle.rules.specs.State.{Pair}
 use Rattle.rules.specs.Hub as Hub
 use Rattle.seat.specs.declared.state.SeatState.{SeatState}
-use Rattle.seat.specs.declared.dues.Due.{Due}
+use Rattle.seat.specs.declared.dues.DuePacket.{DuePacket}
 
 -- with no connection, and nothing asked for
 abbrev pub apart : SeatState
@@ -23,8 +23,8 @@ apart =
     }
 
 -- a pair whose seat stands so and has this log: its frame, its counts and all else are those of the pair
-abbrev pub stands_in : SeatState → Meaning → Pair → Pair
-stands_in s log p =
+abbrev pub with_state : SeatState → Meaning → Pair → Pair
+with_state s log p =
     record p {
       seat = record p.seat {
         phase = s.phase;
@@ -46,11 +46,11 @@ abbrev pub with_requested : Bool → SeatState → SeatState
 with_requested requested s = record s { requested = requested }
 
 -- what is due, in the words of the rules
-abbrev pub due_of : Option Due → SeatState → Meaning → Pair → Hub.Due
-due_of None s log p = Hub.none_due (stands_in s log p)
-due_of (Some d) s log p = Hub.due (value_of d.packet) (stands_in (with_requested d.requested s) log p)
+abbrev pub due_of : Option DuePacket → SeatState → Meaning → Pair → Hub.Due
+due_of None s log p = Hub.none_due (with_state s log p)
+due_of (Some d) s log p = Hub.due (value_of d.packet) (with_state (with_requested d.requested s) log p)
 
 -- it can be written
-abbrev pub Writable : Option Due → Type 0
+abbrev pub Writable : Option DuePacket → Type 0
 Writable None = Unit {0}
 Writable (Some d) = Valid (value_of d.packet)

@@ -16,4 +16,3 @@ mod sending;
 mod state;
 
 pub use seats::Seat;
-pub use state::may_connect;
