@@ -59,10 +59,10 @@ rightly how s = status_for s.rows s.running.log.session (count s.running.log) (a
 abbrev pub narrowly : How → Pair → Status
 narrowly how s = narrow_status_for s.rows s.running.log.session (count s.running.log) (asked how s)
 
--- The seat's log has no message without a session, and begins the hub's log where both bear one session.
+-- The seat's log has no message without a session, and is a prefix of the hub's where both bear one session.
 pub record Honest (s : Pair) : Type 0 where
   pub silent : s.held.session ≡ 0 → s.held.messages ≡ []
-  pub beginning : s.held.session ≡ s.running.log.session → IsPrefix s.held.messages s.running.log.messages
+  pub prefix : s.held.session ≡ s.running.log.session → IsPrefix s.held.messages s.running.log.messages
 
 -- However such a seat connects, the right decision never finds its number invalid.
 abbrev pub NextNumberPasses : Type 0

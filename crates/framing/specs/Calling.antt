@@ -13,7 +13,7 @@ use Rattle.rules.specs.Rounds.{too_short}
 abbrev pub answered : {R : Type 0} → Result R Refusal → Pair → Outcome R
 answered answer s = record { answer = answer; after = s }
 
--- a short outgoing buffer is told before the rule
+-- a short outgoing buffer is reported before the rule
 abbrev pub unless_short : {R : Type 0} → (Pair → Outcome R) → Pair → Outcome R
 unless_short rule s = cond (too_short s.buffers.out) (refuses ShortBuffer s) (rule s)
 

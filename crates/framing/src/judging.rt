@@ -1,5 +1,5 @@
 //! What an end says of its frame.
-//! It knows which letters it takes, and so can tell one that is out of place.
+//! It knows which letters it takes, and so reports one that is out of place.
 ghost use Rattle.std.specs.Prelude.{◌≡◌, ◌≢◌, true, false, Ok, slice_index};
 ghost use Rattle.packet.specs.Decoding.{decode, part};
 ghost use Rattle.packet.specs.Meanings.{answer_of};

@@ -28,10 +28,10 @@ impl Hub {
     /// that was served is over.
     pub fn await_login<D: Line>(&mut self, accounts: &mut Accounts, down: &mut D)
         ensures { (log : Meaning) (up : LineView) (frame out : List ℕ) →
-            let before = side_of self.old log up
-            (D.Line.view down.old) accounts.old.rows frame out in
-            let after = side_of self.new log (cleared up)
-            (D.Line.view down.new) accounts.new.rows frame out in
+            let down_before = D.Line.view down.old in
+            let down_after = D.Line.view down.new in
+            let before = side_of self.old log up down_before accounts.old.rows frame out in
+            let after = side_of self.new log (cleared up) down_after accounts.new.rows frame out in
             after ≡ awaits before }
     {
         down.clear();
@@ -42,8 +42,8 @@ impl Hub {
     pub fn cut(&mut self, accounts: &mut Accounts)
         ensures { (log : Meaning) (up down : LineView) (frame out : List ℕ) →
             let before = side_of self.old log up down accounts.old.rows frame out in
-            let after = side_of self.new log (cleared up) (cleared down)
-            accounts.new.rows frame out in
+            let rows = accounts.new.rows in
+            let after = side_of self.new log (cleared up) (cleared down) rows frame out in
             after ≡ hub_side_of (cut before) }
     {
         self.reset(HubPhase::Shut, accounts);
@@ -99,10 +99,10 @@ impl Hub {
         out: &mut [u8],
     ) -> Result<(), Refusal>
         ensures { (log : Meaning) (up : LineView) (frame : List ℕ) →
-            let before = side_of self.old log up
-            (D.Line.view down.old) accounts.old.rows frame out.old in
-            let after = side_of self.new log up
-            (D.Line.view down.new) accounts.new.rows frame out.new in
+            let down_before = D.Line.view down.old in
+            let down_after = D.Line.view down.new in
+            let before = side_of self.old log up down_before accounts.old.rows frame out.old in
+            let after = side_of self.new log up down_after accounts.new.rows frame out.new in
             answered result after ≡ unless_short times before }
     {
         if out.len() < PACKET_LIMIT {
@@ -119,10 +119,10 @@ impl Hub {
     fn time_out<D: Line>(&mut self, accounts: &mut Accounts, down: &mut D, out: &mut [u8])
         requires { packet_limit ≤ length out.old }
         ensures { (log : Meaning) (up : LineView) (frame : List ℕ) →
-            let before = side_of self.old log up
-            (D.Line.view down.old) accounts.old.rows frame out.old in
-            let after = side_of self.new log up
-            (D.Line.view down.new) accounts.new.rows frame out.new in
+            let down_before = D.Line.view down.old in
+            let down_after = D.Line.view down.new in
+            let before = side_of self.old log up down_before accounts.old.rows frame out.old in
+            let after = side_of self.new log up down_after accounts.new.rows frame out.new in
             after ≡ hub_timed self.old.state.phase before }
     {
         match self.state.phase {

@@ -34,10 +34,10 @@ impl Hub {
         out: &mut [u8],
     ) -> Result<Received, Refusal>
         ensures { let held = G.Log.view log.now in
-            let before = side_of self.old held (U.Line.view up.old)
-            (D.Line.view down.old) accounts.old.rows frame.old out.old in
-            let after = side_of self.new held (U.Line.view up.new)
-            (D.Line.view down.new) accounts.new.rows frame.new out.new in
+            let before = side_of self.old held (U.Line.view up.old) (D.Line.view down.old)
+            accounts.old.rows frame.old out.old in
+            let after = side_of self.new held (U.Line.view up.new) (D.Line.view down.new)
+            accounts.new.rows frame.new out.new in
             Receives before result after }
     {
         if frame.len() < PACKET_LIMIT {
@@ -71,11 +71,11 @@ impl Hub {
         requires { packet_limit ≤ length frame.old }
         ensures outcome { (down : LineView) (out : List ℕ) →
             let held = G.Log.view log.now in
-            let before = side_of self.old held (U.Line.view up.old) down
-            accounts.old.rows frame.old out in
-            let after = side_of self.new held (U.Line.view up.new) down
-            accounts.new.rows frame.new out in
-            closing result after ≡ hears before (U.Line.view up.new).room }
+            let up_before = U.Line.view up.old in
+            let up_after = U.Line.view up.new in
+            let before = side_of self.old held up_before down accounts.old.rows frame.old out in
+            let after = side_of self.new held up_after down accounts.new.rows frame.new out in
+            closing result after ≡ hears before up_after.room }
         ensures free { let lacking = lack (take self.old.filled frame.old) in
             Free (U.Line.view up.old) lacking (U.Line.view up.new).room }
         ensures fewer { Fewer result (U.Line.view up.old) (U.Line.view up.new) }

@@ -37,10 +37,10 @@ impl Hub {
     ) -> Result<Option<Letter>, Refusal>
         ensures { (up : LineView) (frame : List ℕ) →
             let held = G.Log.view log.now in
-            let before = side_of self.old held up
-            (D.Line.view down.old) accounts.old.rows frame out.old in
-            let after = side_of self.new held up
-            (D.Line.view down.new) accounts.new.rows frame out.new in
+            let down_before = D.Line.view down.old in
+            let down_after = D.Line.view down.new in
+            let before = side_of self.old held up down_before accounts.old.rows frame out.old in
+            let after = side_of self.new held up down_after accounts.new.rows frame out.new in
             answered result after ≡ unless_short sends before }
     {
         if out.len() < PACKET_LIMIT {
@@ -121,10 +121,10 @@ impl Hub {
     )
         requires { packet_limit ≤ length out.old }
         ensures { (log : Meaning) (up : LineView) (frame : List ℕ) →
-            let before = side_of self.old log up
-            (D.Line.view down.old) accounts.old.rows frame out.old in
-            let after = side_of self.new log up
-            (D.Line.view down.new) accounts.new.rows frame out.new in
+            let down_before = D.Line.view down.old in
+            let down_after = D.Line.view down.new in
+            let before = side_of self.old log up down_before accounts.old.rows frame out.old in
+            let after = side_of self.new log up down_after accounts.new.rows frame out.new in
             after ≡ hub_gone reason before }
     {
         let _ = self.write(good_bye(reason), down, out);

@@ -95,7 +95,7 @@ pub record SetUp (s : Pair) : Type 0 where
   pub hub_log_sound : Log.Sound s.running.log
   pub begun : 0 < s.running.log.session
   pub seat_log_sound : Log.Sound s.held
-  pub beginning : Follows s.held s.running.log
+  pub follows : Follows s.held s.running.log
   pub up_line : Line.Steady s.up
   pub down_line : Line.Steady s.down
   pub user : length s.account.user ≡ 5

@@ -35,7 +35,7 @@ pub record Free (v : LineView) (n room : ℕ) : Type 0 where
 abbrev pub among : List Letter → ℕ → Bool
 among letters b = list_any (λ l. b == letter_byte l) letters
 
--- An end that knows its phase tells a letter that is out of place before a wrong length or a wrong content.
+-- An end that knows its phase reports a letter that is out of place before a wrong length or a wrong content.
 abbrev pub placed : Bool → Result Decoded PacketFault → Result Decoded PacketFault
 placed false (Ok (whole v)) = Err OutOfPlace
 placed false (Err WrongLength) = Err OutOfPlace

@@ -169,7 +169,7 @@ pub record Sending : Type 0 where
   pub wrote : Option Value
   pub after : Pair
 
--- the packet that is due is written if the line has the room; a smaller one is not sent in its place
+-- the packet that is due is written if the line has the room; a smaller one is not sent instead
 abbrev pub hub_posts : Option Value → Pair → Pair → Sending
 hub_posts None then s = record { answer = Ok None; wrote = None; after = then }
 hub_posts (Some v) then s =

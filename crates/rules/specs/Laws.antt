@@ -89,8 +89,8 @@ gave step = []
 abbrev pub OnlyRoomsFree : Type 0
 OnlyRoomsFree = (s : Pair) (c : Call) (d e : Effect) (x : Step s c d) (y : Step s c e) → gave x ≡ gave y → d ≡ e
 
--- No buffer is shorter than it was: a packet that took the place of the outgoing buffer, rather than stood at its
--- front, would make it so.
+-- No buffer is shorter than it was: a packet that replaced the outgoing buffer, rather than stood at its front,
+-- would make it so.
 pub record NoShorter (b c : Buffers) : Type 0 where
   pub hub_frame : length b.hub_frame ≤ length c.hub_frame
   pub seat_frame : length b.seat_frame ≤ length c.seat_frame
@@ -107,7 +107,7 @@ pub record Framed (s : Pair) : Type 0 where
 abbrev pub FramesStayParts : Type 0
 FramesStayParts = (s : Pair) (c : Call) (d : Effect) → Step s c d → Framed s → Framed d.after
 
--- What a part lacks is something, and has its place in a buffer of the longest packet.
+-- What a part lacks is something, and fits behind it in a buffer of the longest packet.
 abbrev pub PartsLack : Type 0
 PartsLack =
     (frame : List ℕ) → decode frame ≡ Ok part → (0 < lack frame) × (length frame + lack frame ≤ packet_limit)

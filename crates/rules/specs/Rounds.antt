@@ -90,7 +90,7 @@ refusal call r = Answer.Done (Err r)
 abbrev pub too_short : List ℕ → Bool
 too_short buffer = nat_lt (length buffer) packet_limit
 
--- whether a buffer that is lent to the call is too short; a message that is too long is told before it
+-- whether a buffer that is lent to the call is too short; a message that is too long is reported before it
 abbrev pub lent_short : Call → Pair → Bool
 lent_short (Connect how) s = too_short s.buffers.out
 lent_short (Tell m) s = nat_le (length m) message_limit && too_short s.buffers.out

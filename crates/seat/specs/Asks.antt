@@ -16,6 +16,6 @@ fields_of account = account
 abbrev pub asks : How → Pair → Done
 asks how s = on_side seat_side_of (connect how s)
 
--- a message that is too long is told before a short buffer
+-- a message that is too long is reported before a short buffer
 abbrev pub says : List ℕ → Pair → Done
 says m s = cond (lent_short (Say m) s) (refuses ShortBuffer s) (say m s)

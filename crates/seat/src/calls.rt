@@ -3,7 +3,7 @@
 ghost use Rattle.std.specs.Prelude.{◌≡◌, ℕ, List};
 ghost use Rattle.line.specs.Lines.{LineView, cleared};
 ghost use Rattle.message_log.specs.Meaning.{Meaning};
-ghost use Rattle.rules.specs.State as State;
+ghost use Rattle.rules.specs.State.{Account as Fields};
 ghost use Rattle.rules.specs.Calls.{cut, leave, counted, seat_timed};
 ghost use Rattle.rules.specs.Sides.{seat_side_of};
 ghost use Rattle.framing.specs.Calling.{answered, unless_short};
@@ -34,10 +34,10 @@ impl Seat {
     ) -> Result<(), Refusal>
         ensures { (down : LineView) (frame : List ℕ) →
             let held = G.Log.view log.now in
-            let before = side_of self.old held (U.Line.view up.old)
-            (cleared down) account.now frame out.old in
-            let after = side_of self.new held (U.Line.view up.new)
-            (cleared down) account.now frame out.new in
+            let up_before = U.Line.view up.old in
+            let up_after = U.Line.view up.new in
+            let before = side_of self.old held up_before (cleared down) account.now frame out.old in
+            let after = side_of self.new held up_after (cleared down) account.now frame out.new in
             answered result after ≡ unless_short (asks how) before }
     {
         if out.len() < PACKET_LIMIT {
@@ -71,7 +71,7 @@ impl Seat {
         up: &mut U,
         out: &mut [u8],
     ) -> Result<(), Refusal>
-        ensures { (log : Meaning) (down : LineView) (account : State.Account) (frame : List ℕ) →
+        ensures { (log : Meaning) (down : LineView) (account : Fields) (frame : List ℕ) →
             let before = side_of self.old log (U.Line.view up.old) down account frame out.old in
             let after = side_of self.new log (U.Line.view up.new) down account frame out.new in
             answered result after ≡ says message.now before }
@@ -95,7 +95,7 @@ impl Seat {
     /// Leaves: says that it is done, and is apart. Refuses by `ShortBuffer`, `LineFull`, and where it is apart
     /// already by `WrongPhase`, in this order; a refusal changes nothing.
     pub fn leave<U: Line>(&mut self, up: &mut U, out: &mut [u8]) -> Result<(), Refusal>
-        ensures { (log : Meaning) (down : LineView) (account : State.Account) (frame : List ℕ) →
+        ensures { (log : Meaning) (down : LineView) (account : Fields) (frame : List ℕ) →
             let before = side_of self.old log (U.Line.view up.old) down account frame out.old in
             let after = side_of self.new log (U.Line.view up.new) down account frame out.new in
             answered result after ≡ unless_short leave before }
@@ -115,7 +115,7 @@ impl Seat {
 
     /// Its connection is cut, and the lines are cleared: it is apart, with frame and counts cleared.
     pub fn cut(&mut self)
-        ensures { (log : Meaning) (up down : LineView) (account : State.Account) (frame out : List ℕ) →
+        ensures { (log : Meaning) (up down : LineView) (account : Fields) (frame out : List ℕ) →
             let before = side_of self.old log up down account frame out in
             let after = side_of self.new log (cleared up) (cleared down) account frame out in
             after ≡ seat_side_of (cut before) }
@@ -128,7 +128,7 @@ impl Seat {
 
     /// A tick passes: the counts go up, and a connection that was silent for too long ends.
     pub fn tick(&mut self)
-        ensures { (log : Meaning) (up down : LineView) (account : State.Account) (frame out : List ℕ) →
+        ensures { (log : Meaning) (up down : LineView) (account : Fields) (frame out : List ℕ) →
             let before = side_of self.old log up down account frame out in
             let after = side_of self.new log up down account frame out in
             after ≡ seat_side_of (seat_timed (counted before)) }

@@ -33,10 +33,12 @@ impl Seat {
         out: &mut [u8],
     ) -> Result<Received, Refusal>
         ensures { (account : Account) →
-            let before = side_of self.old (G.Log.view log.old) (U.Line.view up.old)
-            (D.Line.view down.old) account frame.old out.old in
-            let after = side_of self.new (G.Log.view log.new) (U.Line.view up.new)
-            (D.Line.view down.new) account frame.new out.new in
+            let held_before = G.Log.view log.old in
+            let held_after = G.Log.view log.new in
+            let before = side_of self.old held_before (U.Line.view up.old) (D.Line.view down.old)
+            account frame.old out.old in
+            let after = side_of self.new held_after (U.Line.view up.new) (D.Line.view down.new)
+            account frame.new out.new in
             Receives before result after }
     {
         if frame.len() < PACKET_LIMIT {
@@ -68,11 +70,13 @@ impl Seat {
     ) -> Result<Received, Fault>
         requires { packet_limit ≤ length frame.old }
         ensures outcome { (up : LineView) (account : Account) (out : List ℕ) →
-            let before = side_of self.old (G.Log.view log.old) up
-            (D.Line.view down.old) account frame.old out in
-            let after = side_of self.new (G.Log.view log.new) up
-            (D.Line.view down.new) account frame.new out in
-            closing result after ≡ hears before (D.Line.view down.new).room }
+            let held_before = G.Log.view log.old in
+            let held_after = G.Log.view log.new in
+            let down_before = D.Line.view down.old in
+            let down_after = D.Line.view down.new in
+            let before = side_of self.old held_before up down_before account frame.old out in
+            let after = side_of self.new held_after up down_after account frame.new out in
+            closing result after ≡ hears before down_after.room }
         ensures free { let lacking = lack (take self.old.filled frame.old) in
             Free (D.Line.view down.old) lacking (D.Line.view down.new).room }
         ensures fewer { Fewer result (D.Line.view down.old) (D.Line.view down.new) }
