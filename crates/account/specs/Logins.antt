@@ -1,5 +1,5 @@
 -- The login decision: an ordered list of checks, the first of which to fail gives the status.
-use Rattle.std.specs.Prelude.{ℕ, ◌+◌, Bool, true, false, cond, not, ◌||◌, List, [], ◌∷◌, Some, None, Option, ◌==◌, nat_le}
+use Rattle.std.specs.Prelude.{ℕ, ◌+◌, Bool, true, false, cond, not, ◌||◌, List, [], ◌∷◌, Some, None, Ok, Err, Option, Result, ◌==◌, nat_le}
 use Rattle.std.specs.Str.{bytes_eq}
 use Rattle.wire.specs.declared.statuses.Status.{Status}
 use Rattle.wire.specs.declared.statuses.Status.TheVariants.{Accepted, UnknownUser, SessionUnavailable, InvalidNumber, WrongVersion, WrongProtocol, AlreadyLoggedIn}
@@ -36,7 +36,10 @@ abbrev pub checks : List Row → Option ℕ → ℕ → ℕ → Asked → List C
 checks rows row session highest asked =
     record { passes = bytes_eq asked.version spoken_version; status = WrongVersion }
     ∷ record { passes = of_row row (λ i. true); status = UnknownUser }
-    ∷ record { passes = of_row row (λ i. bytes_eq (row_at rows i).account.protocol asked.protocol); status = WrongProtocol }
+    ∷ record {
+      passes = of_row row (λ i. bytes_eq (row_at rows i).account.protocol asked.protocol);
+      status = WrongProtocol;
+    }
     ∷ record { passes = of_row row (λ i. not (row_at rows i).marked); status = AlreadyLoggedIn }
     ∷ record { passes = asked.session == 0 || (asked.session == session); status = SessionUnavailable }
     ∷ record { passes = nat_le asked.number (highest + 1); status = InvalidNumber }
@@ -48,4 +51,10 @@ first_failing [] = Accepted
 first_failing (check ∷ rest) = cond check.passes (first_failing rest) check.status
 
 abbrev pub status_for : List Row → ℕ → ℕ → Asked → Status
-status_for rows session highest asked = first_failing (checks rows (found rows asked.user asked.computer) session highest asked)
+status_for rows session highest asked =
+    first_failing (checks rows (found rows asked.user asked.computer) session highest asked)
+
+-- the status that a login is answered by which row it is let in, or why it is not
+abbrev pub status_of : Result ℕ Status → Status
+status_of (Ok row) = Accepted
+status_of (Err status) = status

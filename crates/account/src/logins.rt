@@ -1,6 +1,8 @@
 //! The login decision.
-ghost use Rattle.std.specs.Prelude.{◌≡◌};
-ghost use Rattle.account.specs.Logins.{status_for};
+ghost use Rattle.std.specs.Prelude.{◌≡◌, ◌≢◌, Some, IfOk, IfErr};
+ghost use Rattle.wire.specs.declared.statuses.Status.TheVariants.{Accepted};
+ghost use Rattle.account.specs.Rows.{found};
+ghost use Rattle.account.specs.Logins.{status_for, status_of};
 ghost use Rattle.account.specs.Requests.{asked};
 ghost use Rattle.account.specs.Table.{Whole};
 ghost use Rattle.account.specs.Laws.{Admits};
@@ -20,35 +22,46 @@ impl Accounts {
         ensures status { result ≡ status_for self.now.rows session highest (asked login.entry) }
         ensures whole { Whole self.now }
     {
-        let rows = self.rows();
-        match self.lookup(login.user, login.computer) {
-            _ if login.version != SPOKEN_VERSION.as_slice() => Status::WrongVersion,
-            None => Status::UnknownUser,
-            Some(row) if rows[row].account.protocol.as_slice() != login.protocol =>
-                Status::WrongProtocol,
-            Some(row) if rows[row].marked => Status::AlreadyLoggedIn,
-            Some(_) if login.session != 0 && login.session != session => Status::SessionUnavailable,
-            Some(_) if login.number > highest.saturating_add(1) => Status::InvalidNumber,
-            Some(_) => Status::Accepted,
+        match self.check(login, session, highest) {
+            Ok(_) => Status::Accepted,
+            Err(status) => status,
         }
     }
 
-    /// Decides a login and, where it is accepted, marks its row and answers the row's place. Otherwise answers
+    /// Decides a login and, where it is accepted, marks its row and answers the row's index. Otherwise answers
     /// the status, which is never `Accepted`, and changes nothing.
     pub fn admit(&mut self, login: Login<'_>, session: u8, highest: u64) -> Result<usize, Status>
-        ensures admits { Admits self.old.rows self.new.rows session highest (asked login.entry) result }
+        ensures admits { let before = self.old.rows in
+            let after = self.new.rows in
+            Admits before after session highest (asked login.entry) result }
         ensures whole { Whole self.new }
     {
-        // No answer is only wrapped anew here: it takes both, the decision and the row.
-        match (
-            self.decide(login, session, highest),
-            self.lookup(login.user, login.computer),
-        ) {
-            (Status::Accepted, Some(row)) => {
-                self.mark(row);
-                Ok(row)
-            }
-            (status, _) => Err(status),
+        let row = self.check(login, session, highest)?;
+        self.mark(row);
+        Ok(row)
+    }
+
+    // The row of a login, or the status of the first check that it fails.
+    fn check(&self, login: Login<'_>, session: u8, highest: u64) -> Result<usize, Status>
+        ensures status { status_of result ≡ status_for self.now.rows session highest (asked login.entry) }
+        ensures row { let asks = asked login.entry in
+            IfOk result (λ row. found self.now.rows asks.user asks.computer ≡ Some row) }
+        ensures refused { IfErr result (λ status. status ≢ Accepted) }
+        ensures whole { Whole self.now }
+    {
+        let rows = self.rows();
+        match self.lookup(login.user, login.computer) {
+            _ if login.version != SPOKEN_VERSION.as_slice() => Err(Status::WrongVersion),
+            None => Err(Status::UnknownUser),
+            Some(row) if rows[row].account.protocol.as_slice() != login.protocol => Err(
+                Status::WrongProtocol,
+            ),
+            Some(row) if rows[row].marked => Err(Status::AlreadyLoggedIn),
+            Some(_) if login.session != 0 && login.session != session => Err(
+                Status::SessionUnavailable,
+            ),
+            Some(_) if login.number > highest.saturating_add(1) => Err(Status::InvalidNumber),
+            Some(row) => Ok(row),
         }
     }
 }

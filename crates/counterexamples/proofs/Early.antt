@@ -13,12 +13,12 @@ use Rattle.rules.specs.declared.phases.SeatPhase.{SeatPhase}
 use Rattle.rules.specs.declared.phases.SeatPhase.TheVariants.{Apart, Asking, Live}
 use Rattle.rules.specs.State.{Buffers, Pair}
 use Rattle.rules.specs.Calls.{login_of, asked, connect}
-use Rattle.rules.specs.Rounds.{Call, Connect, HubSend, Effect, did, Step, connects}
+use Rattle.rules.specs.Rounds.{Call, Connect, HubSend, Effect, did, Step, connects, sent}
 use Rattle.promises.specs.Book.{Book, opened, added}
 use Rattle.promises.specs.Runs.{World, Note, begins, at_first, as_of}
 use Rattle.promises.specs.Promises.{Holds}
 use Rattle.counterexamples.specs.Setting.{log_of, hub_at, seat_at, pair_at, fresh_buffers}
-use Rattle.counterexamples.specs.Early.{EarlyRules, as_ruled, early, completes, sent, first, second, early_start, EarlyCompleteLies}
+use Rattle.counterexamples.specs.Early.{EarlyRules, as_ruled, early, completes, first, second, early_start, EarlyCompleteLies}
 use Rattle.counterexamples.proofs.Walks.{fresh_long, roomier, Reached, hub_takes_lem, seat_takes_lem, hub_writes_lem, hub_publishes, writes}
 use Rattle.counterexamples.proofs.Starts.{fair, set_up_lem}
 

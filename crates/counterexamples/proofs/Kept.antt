@@ -1,5 +1,5 @@
 -- The run in which half a login response is kept across a connect.
-use Rattle.std.proofs.Common.{◌≡◌, ℕ, zero, suc, ◌+◌, ◌-◌, ◌*◌, ◌<◌, true, false, List, [], ◌∷◌, ◌++◌, length, get_or, take, drop, replicate, None, Ok, sym, refl, ap, ◌∙◌, subst, arith, length-append, length-drop, length-take, drop-drop, take-add}
+use Rattle.std.proofs.Common.{Bool, ◌≡◌, ℕ, zero, suc, ◌+◌, ◌-◌, ◌*◌, ◌<◌, true, false, List, [], ◌∷◌, ◌++◌, length, get_or, take, drop, replicate, None, Ok, sym, refl, ap, ◌∙◌, subst, arith, length-append, length-drop, length-take, drop-drop, take-add}
 use Rattle.std.specs.List.{AllByRecursion as All}
 use Rattle.std.proofs.lemmas.Bool.{cond-true, cond-false, lt-ltb, le-ltb}
 use Rattle.wire.specs.declared.statuses.Status.TheVariants.{Accepted}
@@ -18,6 +18,7 @@ use Rattle.rules.specs.declared.answers.Received.TheVariants.{Part}
 use Rattle.rules.specs.State.{Buffers, Pair}
 use Rattle.rules.specs.Changes.{grants, seat_took}
 use Rattle.rules.specs.Frames.{lack, Free, among, placed}
+use Rattle.rules.proofs.Frames.{part_placed}
 use Rattle.rules.specs.Seat.{seat_letters, seat_judges, seat_hears}
 use Rattle.rules.specs.Calls.{login_of, asked}
 use Rattle.rules.specs.Rounds.{Call, Connect, SeatReceive, Effect, did, took, Step}
@@ -110,7 +111,9 @@ test_head = seat_takes_lem ruled _ _ _ [] (0x20 ∷ 0x01 ∷ []) (λ b. refl) (�
 heard_part : (s : Pair) (got : List ℕ) (down : LineView) → 0 < length got → decode (s.seat.frame ++ got) ≡ Ok part → seat_hears got down s ≡ grants Part (seat_took got (s.seat.frame ++ got) down s)
 heard_part s [] down h e = absurd (omega arith)
 heard_part s (x ∷ xs) down h e =
-    ap (λ r. seat_judges (placed (among (seat_letters s.seat.phase s.seat.fetch) (get_or (s.seat.frame ++ (x ∷ xs)) 2 0)) r) (x ∷ xs) (s.seat.frame ++ (x ∷ xs)) down s) e
+    let frame : List ℕ = s.seat.frame ++ (x ∷ xs) in
+    let here : Bool = among (seat_letters s.seat.phase s.seat.fetch) (get_or frame 2 0) in
+    ap (λ r. seat_judges r (x ∷ xs) frame down s) (ap (placed here) e ∙ part_placed here)
 
 test_open : (xs : List ℕ) → length xs < 288 → decode (0x20 ∷ 0x01 ∷ xs) ≡ Ok part
 unfolding decode

@@ -31,10 +31,10 @@ use Rattle.counterexamples.specs.Refusing.{Honest, NextNumberPasses, RefusingLoc
 use Rattle.counterexamples.proofs.Walks.{Long, fresh_long, fronted_long, long_enough, roomier}
 use Rattle.counterexamples.proofs.Starts.{set_up_lem}
 
--- an invalid number is told only by the last check: the session passed, and the number did not
-told : (b : Bool) (rest x : Status) → (x ≡ InvalidNumber → ⊥) → cond b rest x ≡ InvalidNumber → (b ≡ true) × (rest ≡ InvalidNumber)
-told true rest x n e = (refl, e)
-told false rest x n e = absurd (n e)
+-- an invalid number is reported only by the last check: the session passed, and the number did not
+passed : (b : Bool) (rest x : Status) → (x ≡ InvalidNumber → ⊥) → cond b rest x ≡ InvalidNumber → (b ≡ true) × (rest ≡ InvalidNumber)
+passed true rest x n e = (refl, e)
+passed false rest x n e = absurd (n e)
 
 told_last : (b : Bool) → cond b Accepted InvalidNumber ≡ InvalidNumber → b ≡ false
 told_last true e = (cc e)
@@ -44,7 +44,7 @@ number_fits : (how : How) (s : Pair) → Honest s → (eqb (asked_session how s.
 number_fits Join s h e =
     ⊎_elim
     (λ z. let m = ap length (h.silent (eqb-true s.held.session 0 z)) in omega arith)
-    (λ z. let b = h.beginning (eqb-true s.held.session s.running.log.session z) in
+    (λ z. let b = h.prefix (eqb-true s.held.session s.running.log.session z) in
     omega (arith, ap length b.1, length-append s.held.messages b.0))
     (or_cases _ _ e)
 number_fits Anew s h e = omega arith
@@ -53,11 +53,11 @@ number_fits (Fetch end) s h e = omega arith
 pub next_number_passes : NextNumberPasses
 next_number_passes how s h e =
     let row : Option ℕ = found s.rows s.account.user s.account.computer in
-    let a = told (bytes_eq (asked how s).version spoken_version) _ WrongVersion (λ q. (cc q)) e in
-    let b = told (of_row row (λ i. true)) _ UnknownUser (λ q. (cc q)) a.1 in
-    let c = told (of_row row (λ i. bytes_eq (row_at s.rows i).account.protocol s.account.protocol)) _ WrongProtocol (λ q. (cc q)) b.1 in
-    let d = told (of_row row (λ i. not (row_at s.rows i).marked)) _ AlreadyLoggedIn (λ q. (cc q)) c.1 in
-    let f = told (eqb (asked_session how s.held) 0 || eqb (asked_session how s.held) s.running.log.session) _ SessionUnavailable (λ q. (cc q)) d.1 in
+    let a = passed (bytes_eq (asked how s).version spoken_version) _ WrongVersion (λ q. (cc q)) e in
+    let b = passed (of_row row (λ i. true)) _ UnknownUser (λ q. (cc q)) a.1 in
+    let c = passed (of_row row (λ i. bytes_eq (row_at s.rows i).account.protocol s.account.protocol)) _ WrongProtocol (λ q. (cc q)) b.1 in
+    let d = passed (of_row row (λ i. not (row_at s.rows i).marked)) _ AlreadyLoggedIn (λ q. (cc q)) c.1 in
+    let f = passed (eqb (asked_session how s.held) 0 || eqb (asked_session how s.held) s.running.log.session) _ SessionUnavailable (λ q. (cc q)) d.1 in
     let g : leb (asked_number how s.held) (count s.running.log + 1) ≡ false = told_last _ f.1 in
     omega (arith, leb-false _ _ g, number_fits how s h f.0)
 

@@ -10,7 +10,7 @@ use Rattle.promises.specs.Book.{Message}
 use Rattle.promises.specs.Runs.{SetUp}
 use Rattle.counterexamples.specs.Setting.{line_of, log_of, starting_with}
 
--- what holds of each element, and of what stands for none, holds at every place
+-- what holds of each element, and of what stands for none, holds at every index
 at_every : {X : Type 0} (P : X → Type 0) (d : X) (xs : List X) → P d → All P xs → (k : ℕ) → P (get_or xs k d)
 at_every P d [] p a k = p
 at_every P d (x ∷ xs) p a zero = a.0
@@ -61,7 +61,7 @@ set_up_lem messages limit b h fits placed a =
       hub_log_sound = log_sound 1 messages (omega arith) (λ e. absurd (omega arith)) fits placed a;
       begun = omega arith;
       seat_log_sound = log_sound 0 [] (omega arith) (λ e. refl) (omega arith) (omega arith) tt;
-      beginning = inl (refl, refl);
+      follows = inl (refl, refl);
       up_line = line_sound packet_limit (omega arith);
       down_line = line_sound limit h;
       user = refl;

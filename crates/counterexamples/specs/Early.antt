@@ -11,8 +11,7 @@ use Rattle.rules.specs.declared.phases.HubPhase.TheVariants.{Serving}
 use Rattle.rules.specs.State.{Pair}
 use Rattle.rules.specs.Changes.{hub_to}
 use Rattle.rules.specs.Hub.{Sending, hub_posts}
-use Rattle.rules.specs.declared.answers.Answer.TheVariants as Answer
-use Rattle.rules.specs.Rounds.{Call, HubSend, Effect, Step, lent_short}
+use Rattle.rules.specs.Rounds.{Call, HubSend, Effect, sent, Step, lent_short}
 use Rattle.promises.specs.Book.{Message}
 use Rattle.promises.specs.Promises.{InStepIsTrue}
 use Rattle.counterexamples.specs.Setting.{starting_with, fresh_buffers}
@@ -21,15 +20,13 @@ use Rattle.counterexamples.specs.Setting.{starting_with, fresh_buffers}
 abbrev pub completes : ℕ → ℕ → Pair → Sending
 completes asked next s = hub_posts (Some synchronization_complete) (hub_to (Serving asked next false) s) s
 
-abbrev pub sent : Sending → Effect
-sent x = record { answer = Answer.Sent x.answer; wrote = x.wrote; after = x.after }
-
 -- All that the rules allow. And besides, a hub that answers logins with this highest number may write
 -- synchronization complete once it has sent that message, although it holds the next.
 pub data EarlyRules (highest : ℕ) (s : Pair) : Call → Effect → Type 0 where
   as_ruled : (c : Call) (d : Effect) → Step s c d → EarlyRules highest s c d
   early : (asked : ℕ) → lent_short HubSend s ≡ false → s.hub.phase ≡ Serving asked (highest + 1) true →
-      has s.running.log (highest + 1) ≡ true → EarlyRules highest s HubSend (sent (completes asked (highest + 1) s))
+      has s.running.log (highest + 1) ≡ true →
+      EarlyRules highest s HubSend (sent (completes asked (highest + 1) s))
 
 -- the message that the hub holds at the login, and the one that is published while it is sent
 abbrev pub first : Message

@@ -4,9 +4,8 @@
 -- seat wants what comes next. A login decision that passes numbers up to the highest alone, and not the one after it,
 -- locks such a seat out, until something more is published; and at a hub that has published nothing it locks out
 -- every seat that asks for number 1.
-use Rattle.std.specs.Prelude.{◌≡◌, ℕ, true, false, not, ◌||◌, List, [], ◌∷◌, ◌++◌, Some, None, Ok, Option, ◌==◌, ◌≢◌, nat_le}
+use Rattle.std.specs.Prelude.{◌≡◌, ℕ, true, false, not, ◌||◌, List, [], ◌∷◌, ◌++◌, Some, Ok, Option, ◌==◌, ◌≢◌, nat_le}
 use Rattle.std.specs.Str.{bytes_eq}
-use Rattle.wire.specs.declared.refusals.Refusal.TheVariants.{ShortBuffer}
 use Rattle.wire.specs.declared.letters.Letter.TheVariants as L
 use Rattle.wire.specs.declared.statuses.Status.{Status}
 use Rattle.wire.specs.declared.statuses.Status.TheVariants.{Accepted, UnknownUser, SessionUnavailable, InvalidNumber, WrongVersion, WrongProtocol, AlreadyLoggedIn}
@@ -30,7 +29,7 @@ use Rattle.rules.specs.Hub.{hub_letters, decided, hub_sends}
 use Rattle.rules.specs.Seat.{seat_sends}
 use Rattle.rules.specs.Calls.{asked, login_of}
 use Rattle.rules.specs.declared.answers.Answer.TheVariants as Answer
-use Rattle.rules.specs.Rounds.{HubReceives, SeatReceives, Drains, Call, HubReceive, Round, Effect, took, refusal, lent_short, Step}
+use Rattle.rules.specs.Rounds.{HubReceives, SeatReceives, Drains, Call, HubReceive, Round, Effect, took, stopped, lent_short, Step}
 use Rattle.promises.specs.Runs.{IsPrefix}
 use Rattle.promises.specs.Promises.{Level, CatchesUp}
 use Rattle.counterexamples.specs.Setting.{starting_with, fresh_buffers}
@@ -40,14 +39,18 @@ abbrev pub narrow_checks : List Row → Option ℕ → ℕ → ℕ → Asked →
 narrow_checks rows row session highest asked =
     record { passes = bytes_eq asked.version spoken_version; status = WrongVersion }
     ∷ record { passes = of_row row (λ i. true); status = UnknownUser }
-    ∷ record { passes = of_row row (λ i. bytes_eq (row_at rows i).account.protocol asked.protocol); status = WrongProtocol }
+    ∷ record {
+      passes = of_row row (λ i. bytes_eq (row_at rows i).account.protocol asked.protocol);
+      status = WrongProtocol;
+    }
     ∷ record { passes = of_row row (λ i. not (row_at rows i).marked); status = AlreadyLoggedIn }
     ∷ record { passes = asked.session == 0 || (asked.session == session); status = SessionUnavailable }
     ∷ record { passes = nat_le asked.number highest; status = InvalidNumber }
     ∷ []
 
 abbrev pub narrow_status_for : List Row → ℕ → ℕ → Asked → Status
-narrow_status_for rows session highest asked = first_failing (narrow_checks rows (found rows asked.user asked.computer) session highest asked)
+narrow_status_for rows session highest asked =
+    first_failing (narrow_checks rows (found rows asked.user asked.computer) session highest asked)
 
 -- what the right decision, and the wrong one, say of the login of a pair
 abbrev pub rightly : How → Pair → Status
@@ -56,10 +59,10 @@ rightly how s = status_for s.rows s.running.log.session (count s.running.log) (a
 abbrev pub narrowly : How → Pair → Status
 narrowly how s = narrow_status_for s.rows s.running.log.session (count s.running.log) (asked how s)
 
--- The seat's log has no message without a session, and begins the hub's log where both bear one session.
+-- The seat's log has no message without a session, and is a prefix of the hub's where both bear one session.
 pub record Honest (s : Pair) : Type 0 where
   pub silent : s.held.session ≡ 0 → s.held.messages ≡ []
-  pub beginning : s.held.session ≡ s.running.log.session → IsPrefix s.held.messages s.running.log.messages
+  pub prefix : s.held.session ≡ s.running.log.session → IsPrefix s.held.messages s.running.log.messages
 
 -- However such a seat connects, the right decision never finds its number invalid.
 abbrev pub NextNumberPasses : Type 0
@@ -82,7 +85,8 @@ RefusingLocksOut = (i : ℕ) (s : Pair) → CaughtUp i s → LockedOut s
 
 -- The hub receives: a login request goes by the wrong decision, and all else is as ruled.
 pub data NarrowReceives (s : Pair) : Outcome Received → Type 0 where
-  no_login : (o : Outcome Received) → (o.answer ≢ Ok (Acted L.LoginRequest)) → HubReceives s o → NarrowReceives s o
+  no_login : (o : Outcome Received) → (o.answer ≢ Ok (Acted L.LoginRequest)) → HubReceives s o →
+      NarrowReceives s o
   login : (room : ℕ) (a : Asked) → s.hub.phase ≡ Waiting → Free s.up (lack s.hub.frame) room →
       judged (hub_letters Waiting) (s.hub.frame ++ given s.up (lack s.hub.frame)) ≡ Ok (whole (login_of a)) →
       NarrowReceives s
@@ -101,9 +105,11 @@ pub record NarrowRounds (s : Pair) (report : Report) (wrote : Option Value) (t :
 -- Every call does what the rules say, but for what a login request leads to.
 pub data NarrowRules (s : Pair) : Call → Effect → Type 0 where
   as_ruled : (c : Call) (d : Effect) → (c ≢ HubReceive) → (c ≢ Round) → Step s c d → NarrowRules s c d
-  short_buffer : (c : Call) → lent_short c s ≡ true → NarrowRules s c (record { answer = refusal c ShortBuffer; wrote = None; after = s })
-  hub_receives : (o : Outcome Received) → lent_short HubReceive s ≡ false → NarrowReceives s o → NarrowRules s HubReceive (took o)
-  rounds : (report : Report) (wrote : Option Value) (t : Pair) → lent_short Round s ≡ false → NarrowRounds s report wrote t →
+  short_buffer : (c : Call) → lent_short c s ≡ true → NarrowRules s c (stopped c s)
+  hub_receives : (o : Outcome Received) → lent_short HubReceive s ≡ false → NarrowReceives s o →
+      NarrowRules s HubReceive (took o)
+  rounds : (report : Report) (wrote : Option Value) (t : Pair) →
+      lent_short Round s ≡ false → NarrowRounds s report wrote t →
       NarrowRules s Round (record { answer = Answer.Round (Ok report); wrote = wrote; after = t })
 
 -- a hub that has published nothing yet, and a seat without a session

@@ -22,7 +22,7 @@ pub fn a_kept_frame_misleads()
     ensures { KeptFrameMisleads }
 {}
 
-/// The number after the highest is right to ask for: a seat whose log is a beginning of the hub's is never told
+/// The number after the highest is right to ask for: a seat whose log is a prefix of the hub's is never told
 /// that its number is invalid. A login decision that refuses that number rejects every seat that holds all
 /// messages and joins, and a seat that is new to a hub which has published none does not catch up.
 pub fn refusing_the_next_number_locks_out()

@@ -57,7 +57,7 @@ fewer_any : {E : Type 0} (r : Result Received E) (v w : LineView) → length w.w
 fewer_any (Ok Nothing) v w h = tt
 fewer_any (Ok Part) v w h = h
 fewer_any (Ok (Acted letter)) v w h = h
-fewer_any (Ok (Message place long)) v w h = h
+fewer_any (Ok (Message offset long)) v w h = h
 fewer_any (Err e) v w h = tt
 
 pub fewer_after : {E : Type 0} (r : Result Received E) (v w : LineView) (buf buf' : List ℕ) (n m k : ℕ) → (k ≡ 0 → ⊥) → Filled v buf n m k w buf' → Fewer r v w

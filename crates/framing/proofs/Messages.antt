@@ -17,7 +17,7 @@ pub message_size : (n : ℕ) (m : List ℕ) → length (encode (sequenced n m)) 
 unfolding encode
 message_size n m = omega arith
 
--- a message whose length is told is held
+-- a message whose length is reported is held
 pub held : (l : Meaning) (n k : ℕ) → Ok k ≡ measured l n → (has l n ≡ true) × (k ≡ length (nth l n))
 held l n k e = cut (has l n) (Ok (length (nth l n))) _ (Ok k) _ (λ t x. (t, (cc))) (λ t x. (cc)) (sym e)
 

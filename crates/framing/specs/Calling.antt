@@ -13,7 +13,7 @@ use Rattle.rules.specs.Rounds.{too_short}
 abbrev pub answered : {R : Type 0} → Result R Refusal → Pair → Outcome R
 answered answer s = record { answer = answer; after = s }
 
--- a short outgoing buffer is told before the rule
+-- a short outgoing buffer is reported before the rule
 abbrev pub unless_short : {R : Type 0} → (Pair → Outcome R) → Pair → Outcome R
 unless_short rule s = cond (too_short s.buffers.out) (refuses ShortBuffer s) (rule s)
 
@@ -22,5 +22,5 @@ abbrev pub Fewer : {E : Type 0} → Result Received E → LineView → LineView 
 Fewer (Ok A.Nothing) line after = Unit {0}
 Fewer (Ok A.Part) line after = length after.waiting < length line.waiting
 Fewer (Ok (A.Acted letter)) line after = length after.waiting < length line.waiting
-Fewer (Ok (A.Message place long)) line after = length after.waiting < length line.waiting
+Fewer (Ok (A.Message offset long)) line after = length after.waiting < length line.waiting
 Fewer (Err refusal) line after = Unit {0}

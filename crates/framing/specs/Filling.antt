@@ -9,9 +9,9 @@ use Rattle.rules.specs.Frames.{lack, given, left, Free}
 abbrev pub wanted : ℕ → List ℕ → ℕ
 wanted held buffer = cond (nat_le packet_limit (length buffer) && nat_le held packet_limit) (lack (take held buffer)) 0
 
--- at most n bytes were taken into a buffer from a place on, and k came
-pub record Filled (before : LineView) (places : List ℕ) (at n k : ℕ) (after : LineView) (filled : List ℕ) : Type 0 where
+-- at most n bytes were taken into a buffer from an offset on, and k came
+pub record Filled (before : LineView) (bytes : List ℕ) (at n k : ℕ) (after : LineView) (filled : List ℕ) : Type 0 where
   pub count : k ≡ length (given before n)
   pub line : after ≡ left before n after.room
   pub free : Free before n after.room
-  pub buffer : filled ≡ laid places at (given before n)
+  pub buffer : filled ≡ laid bytes at (given before n)

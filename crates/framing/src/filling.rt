@@ -12,7 +12,9 @@ use wire::PACKET_LIMIT;
 /// packet, or more than that is held, nothing is taken.
 #[inline(always)]
 pub fn fill<L: SteadyLine>(line: &mut L, frame: &mut [u8], held: usize) -> usize
-    ensures { Filled (L.Line.view line.old) frame.old held (wanted held frame.old) result (L.Line.view line.new) frame.new }
+    ensures { let before = L.Line.view line.old in
+        let after = L.Line.view line.new in
+        Filled before frame.old held (wanted held frame.old) result after frame.new }
 {
     if frame.len() < PACKET_LIMIT {
         return 0;
@@ -38,11 +40,13 @@ fn lacking(frame: &[u8]) -> usize
     }
 }
 
-// Takes into the places from `from` to `end`.
+// Takes into the buffer from offset `from` to offset `end`.
 #[inline(always)]
 fn take_at<L: SteadyLine>(line: &mut L, frame: &mut [u8], from: usize, end: usize) -> usize
     requires { (from ≤ end) × (end ≤ length frame.old) }
-    ensures { Filled (L.Line.view line.old) frame.old from (end - from) result (L.Line.view line.new) frame.new }
+    ensures { let before = L.Line.view line.old in
+        let after = L.Line.view line.new in
+        Filled before frame.old from (end - from) result after frame.new }
 {
     line.take(&mut frame[from..end])
 }

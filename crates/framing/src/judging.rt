@@ -1,5 +1,5 @@
 //! What an end says of its frame.
-//! It knows which letters it takes, and so can tell one that is out of place.
+//! It knows which letters it takes, and so reports one that is out of place.
 ghost use Rattle.std.specs.Prelude.{◌≡◌, ◌≢◌, true, false, Ok, slice_index};
 ghost use Rattle.packet.specs.Decoding.{decode, part};
 ghost use Rattle.packet.specs.Meanings.{answer_of};
@@ -23,15 +23,12 @@ pub fn is_part(bytes: &[u8]) -> bool
 }
 
 /// What an end that takes these letters says of its frame: a part, a packet or a fault. A letter that is out of
-/// place is told before a wrong length and a wrong content, and after a letter that is none.
+/// place is reported before a wrong length and a wrong content, and after a letter that is none. It reads a packet, so
+/// an end asks `is_part` first: most takes leave a part.
 #[inline(always)]
 pub fn judge<'a>(bytes: &'a [u8], letters: &[Letter]) -> Result<Option<Packet<'a>>, PacketFault>
     ensures { answer_of result ≡ judged letters.now bytes.now }
 {
-    // Most takes leave a part: no packet is read for it.
-    if is_part(bytes) {
-        return Ok(None);
-    }
     let reader = Reader::new(bytes);
     if is_taken(bytes, letters) {
         return reader.read();

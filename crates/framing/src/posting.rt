@@ -15,6 +15,15 @@ use message_log::Log;
 use packet::Packet;
 use wire::{Letter, PACKET_LIMIT, Refusal, lay, number_bytes};
 
+/// The offset of the message in an unsequenced packet: behind the length number and the letter.
+pub const MESSAGE_OFFSET: usize = 3;
+
+// How many bytes of a sequenced packet stand before its message: length number, letter and sequence number.
+const HEAD: usize = 11;
+
+// How many of those its length number counts: letter and sequence number.
+const COUNTED_HEAD: u16 = 9;
+
 /// Whether the line has the room for a packet.
 #[tactic(auto, using(packet::proofs::Back::length_encode))]
 pub fn has_room<L: Line>(packet: Packet<'_>, line: &L) -> bool
@@ -23,10 +32,13 @@ pub fn has_room<L: Line>(packet: Packet<'_>, line: &L) -> bool
     packet.size() <= line.room() as u128
 }
 
-/// Writes the packet at the front of `out` and puts it on the line. A line that lacks the room is told first, then a
+/// Writes the packet at the front of `out` and puts it on the line. A line that lacks the room is reported first, then a
 /// short buffer, then a packet that could not be read back; a refusal changes nothing.
 pub fn post<L: Line>(packet: Packet<'_>, line: &mut L, out: &mut [u8]) -> Result<(), Refusal>
-    ensures { Posted (value_of packet.entry) (posting (value_of packet.entry) (L.Line.view line.old) (length out.old)) (L.Line.view line.old) out.old result (L.Line.view line.new) out.new }
+    ensures { let value = value_of packet.entry in
+        let before = L.Line.view line.old in
+        let after = L.Line.view line.new in
+        Posted value (posting value before (length out.old)) before out.old result after out.new }
 {
     if !has_room(packet, line) {
         return Err(Refusal::LineFull);
@@ -36,7 +48,7 @@ pub fn post<L: Line>(packet: Packet<'_>, line: &mut L, out: &mut [u8]) -> Result
 }
 
 /// Puts message `number` of the log on the line as a sequenced packet: it is read straight into `out`, behind its
-/// head. No such message is told first, then a buffer that could not hold the longest packet, then a line that lacks
+/// head. No such message is reported first, then a buffer that could not hold the longest packet, then a line that lacks
 /// the room; a refusal changes nothing.
 pub fn post_message<G: Log, L: Line>(
     number: u64,
@@ -44,13 +56,18 @@ pub fn post_message<G: Log, L: Line>(
     line: &mut L,
     out: &mut [u8],
 ) -> Result<(), Refusal>
-    ensures { Posted (sequenced number (nth (G.Log.view log.now) number)) (posting_message (G.Log.view log.now) number (L.Line.view line.old) (length out.old)) (L.Line.view line.old) out.old result (L.Line.view line.new) out.new }
+    ensures { let held = G.Log.view log.now in
+        let value = sequenced number (nth held number) in
+        let before = L.Line.view line.old in
+        let after = L.Line.view line.new in
+        let says = posting_message held number before (length out.old) in
+        Posted value says before out.old result after out.new }
 {
     let length = log.length_of(number as usize)?;
     if out.len() < PACKET_LIMIT {
         return Err(Refusal::ShortBuffer);
     }
-    let size = length + 11;
+    let size = length + HEAD;
     if line.room() < size {
         return Err(Refusal::LineFull);
     }
@@ -63,18 +80,19 @@ fn lay_message<G: Log>(number: u64, bytes: u16, log: &G, out: &mut [u8])
     requires there { has (G.Log.view log.now) number ≡ true }
     requires bytes { bytes ≡ length (nth (G.Log.view log.now) number) }
     requires room { packet_limit ≤ length out.old }
-    ensures { out.new ≡ fronted (encode (sequenced number (nth (G.Log.view log.now) number))) out.old }
+    ensures { let value = sequenced number (nth (G.Log.view log.now) number) in
+        out.new ≡ fronted (encode value) out.old }
 {
     lay(out, 0, &head(number, bytes));
-    let _ = log.read(number as usize, &mut out[11..]);
+    let _ = log.read(number as usize, &mut out[HEAD..]);
 }
 
 // The head of a sequenced packet: what stands before a message of so many bytes.
-fn head(number: u64, bytes: u16) -> [u8; 11]
+fn head(number: u64, bytes: u16) -> [u8; HEAD]
     requires { bytes ≤ message_limit }
-    ensures { result ≡ little 2 (bytes + 9) ++ (0x53 ∷ little 8 number) }
+    ensures { result ≡ little 2 (bytes + COUNTED_HEAD) ++ (0x53 ∷ little 8 number) }
 {
-    let [low, high] = (bytes + 9).to_le_bytes();
+    let [low, high] = (bytes + COUNTED_HEAD).to_le_bytes();
     let [a, b, c, d, e, f, g, h] = number_bytes(number);
     [low, high, Letter::Sequenced.into(), a, b, c, d, e, f, g, h]
 }

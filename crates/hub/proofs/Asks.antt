@@ -8,9 +8,9 @@ use Rattle.wire.specs.declared.goodbyes.GoodByeReason.TheVariants as G
 use Rattle.packet.specs.Values.{encode, good_bye, unsequenced}
 use Rattle.line.specs.Lines.{fits}
 use Rattle.rules.specs.declared.phases.HubPhase.{HubPhase}
-use Rattle.rules.specs.declared.phases.HubPhase.TheVariants.{Shut, Waiting, Answering, Rejecting, Serving, Filling}
+use Rattle.rules.specs.declared.phases.HubPhase.TheVariants.{Shut, Waiting, Serving}
 use Rattle.rules.specs.State.{Pair}
-use Rattle.rules.specs.Changes.{with_hub, hub_leaves, hub_writes, hub_tells}
+use Rattle.rules.specs.Changes.{hub_leaves, hub_writes, hub_tells}
 use Rattle.rules.specs.Calls.{done, is_serving, waiting_limit, silence_limit, one_more, counted, hub_timed}
 use Rattle.rules.specs.Hub.{hub_gone}
 use Rattle.rules.specs.Sides.{hub_side_of}
@@ -42,17 +42,14 @@ side_cond true x y u v e f = e
 side_cond false x y u v e f = f
 
 timed_side : (h : HubPhase) (s : Pair) → hub_side_of (hub_timed h s) ≡ hub_timed h (hub_side_of s)
-timed_side Shut s = refl
 timed_side Waiting s = side_cond (ltb waiting_limit s.hub.waited) _ _ _ _ (gone_side G.LoginTimeout s) refl
-timed_side (Answering asked) s = refl
-timed_side (Rejecting status) s = refl
 timed_side (Serving asked next owed) s = side_cond (ltb silence_limit s.hub.silent) _ _ _ _ refl refl
-timed_side (Filling next last) s = refl
+timed_side phase s = refl
 
 -- the hub with these counts
 abbrev pub counting : ℕ → ℕ → ℕ → Pair → Pair
 counting unsent silent waited s =
-    with_hub s (record { phase = s.hub.phase; row = s.hub.row; frame = s.hub.frame; unsent = unsent; silent = silent; waited = waited })
+    record s { hub = record s.hub { unsent = unsent; silent = silent; waited = waited } }
 
 pub times_granted : (s t : Pair) (unsent silent waited : ℕ) → packet_limit ≤ length s.buffers.out → unsent ≡ one_more s.hub.unsent → silent ≡ one_more s.hub.silent → waited ≡ one_more s.hub.waited →
     t ≡ hub_timed s.hub.phase (hub_side_of (counting unsent silent waited s)) → done t ≡ unless_short times s

@@ -23,7 +23,7 @@ use Rattle.hub.specs.Receives.{hears}
 
 -- the hub once it took bytes: so many stand in its frame
 abbrev pub taken : ℕ → Hub → Hub
-taken m h = record { state = h.state; finished = h.finished; filled = m; unsent = h.unsent; silent = 0; waited = h.waited }
+taken m h = record h { filled = m; silent = 0 }
 
 took : (hub : Hub) (log : Meaning) (v w down : LineView) (rows : List Row) (buf buf' out g frame : List ℕ) (m : ℕ) →
     buf' ≡ laid buf (length (take hub.filled buf)) g → take m buf' ≡ frame →
@@ -33,16 +33,16 @@ took hub log v w down rows buf buf' out g frame m b f =
     ap (λ (x : List ℕ). side x buf') f ∙ ap (λ (x : List ℕ). side frame x) b
 
 -- what a receive comes to where this is said of the frame: the hub with its frame empty, and with it kept
-abbrev pub telling : Result Decoded PacketFault → HubPhase → Pair → Pair → Outcome Received
-telling (Ok part) phase empty kept = grants Part kept
-telling (Ok (whole v)) phase empty kept = hub_acts phase v empty
-telling (Err fault) phase empty kept = hub_bad fault empty
+abbrev pub comes_to : Result Decoded PacketFault → HubPhase → Pair → Pair → Outcome Received
+comes_to (Ok part) phase empty kept = grants Part kept
+comes_to (Ok (whole v)) phase empty kept = hub_acts phase v empty
+comes_to (Err fault) phase empty kept = hub_bad fault empty
 
-tells_judges : (a : Result Decoded PacketFault) (g frame : List ℕ) (w : LineView) (s empty kept : Pair) → empty ≡ hub_took g [] w s → kept ≡ hub_took g frame w s →
-    telling a s.hub.phase empty kept ≡ hub_judges a g frame w s
-tells_judges (Ok part) g frame w s empty kept e k = ap (λ (x : Pair). grants {R = Received} Part x) k
-tells_judges (Ok (whole v)) g frame w s empty kept e k = ap (hub_acts s.hub.phase v) e
-tells_judges (Err fault) g frame w s empty kept e k = ap (hub_bad fault) e
+comes_to_judges : (a : Result Decoded PacketFault) (g frame : List ℕ) (w : LineView) (s empty kept : Pair) → empty ≡ hub_took g [] w s → kept ≡ hub_took g frame w s →
+    comes_to a s.hub.phase empty kept ≡ hub_judges a g frame w s
+comes_to_judges (Ok part) g frame w s empty kept e k = ap (λ (x : Pair). grants {R = Received} Part x) k
+comes_to_judges (Ok (whole v)) g frame w s empty kept e k = ap (hub_acts s.hub.phase v) e
+comes_to_judges (Err fault) g frame w s empty kept e k = ap (hub_bad fault) e
 
 hears_some : (g : List ℕ) (w : LineView) (s : Pair) → (length g ≡ 0 → ⊥) →
     hub_hears g w s ≡ hub_judges (judged (hub_letters s.hub.phase) (s.hub.frame ++ g)) g (s.hub.frame ++ g) w s
@@ -64,7 +64,7 @@ hears_none hub log v w down rows buf buf' out k h f z =
 pub hears_judged : (hub : Hub) (log : Meaning) (v w down : LineView) (rows : List Row) (buf buf' out : List ℕ) (k : ℕ) (a : Result Decoded PacketFault) →
     packet_limit ≤ length buf → Filled v buf hub.filled (wanted hub.filled buf) k w buf' → (k ≡ 0 → ⊥) →
     a ≡ judged (hub_letters hub.state.phase) (take (hub.filled + k - 0) buf') →
-    telling a hub.state.phase (side_of (taken 0 hub) log w down rows buf' out) (side_of (taken (hub.filled + k) hub) log w down rows buf' out)
+    comes_to a hub.state.phase (side_of (taken 0 hub) log w down rows buf' out) (side_of (taken (hub.filled + k) hub) log w down rows buf' out)
     ≡ hears (side_of hub log v down rows buf out) w.room
 hears_judged hub log v w down rows buf buf' out k a h f z j =
     let n : ℕ = hub.filled in
@@ -73,7 +73,7 @@ hears_judged hub log v w down rows buf buf' out k a h f z j =
     let s : Pair = side_of hub log v down rows buf out in
     let says : List ℕ → Result Decoded PacketFault = judged (hub_letters hub.state.phase) in
     let q = came v w buf buf' n k h f z in
-    tells_judges a g (fr ++ g) w s _ _ (took hub log v w down rows buf buf' out g [] 0 q.buffer refl) (took hub log v w down rows buf buf' out g (fr ++ g) (n + k) q.buffer q.frame)
+    comes_to_judges a g (fr ++ g) w s _ _ (took hub log v w down rows buf buf' out g [] 0 q.buffer refl) (took hub log v w down rows buf buf' out g (fr ++ g) (n + k) q.buffer q.frame)
     ∙ ap (λ (x : Result Decoded PacketFault). hub_judges x g (fr ++ g) w s) (j ∙ ap (λ (i : ℕ). says (take i buf')) (omega arith) ∙ ap says q.frame)
     ∙ sym (hears_some g w s q.some)
     ∙ ap (λ (x : LineView). hub_hears g x s) q.line

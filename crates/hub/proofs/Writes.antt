@@ -8,7 +8,7 @@ use Rattle.wire.specs.declared.letters.Letter.{Letter}
 use Rattle.packet.specs.Values.{Value, encode, letter}
 use Rattle.line.specs.Lines.{fits}
 use Rattle.rules.specs.declared.phases.HubPhase.{HubPhase}
-use Rattle.rules.specs.declared.phases.HubPhase.TheVariants.{Shut, Waiting, Answering, Rejecting, Serving, Filling}
+use Rattle.rules.specs.declared.phases.HubPhase.TheVariants.{Shut, Waiting}
 use Rattle.rules.specs.State.{Pair}
 use Rattle.rules.specs.Changes.{grants, refuses, hub_writes, hub_tells}
 use Rattle.rules.specs.Hub as Hub
@@ -23,10 +23,7 @@ use Rattle.hub.specs.Sends.{told, sends}
 pub enters_writes : (phase : HubPhase) (v : Value) (s : Pair) → enters phase (hub_writes v s) ≡ hub_writes v (enters phase s)
 enters_writes Shut v s = refl
 enters_writes Waiting v s = refl
-enters_writes (Answering asked) v s = refl
-enters_writes (Rejecting status) v s = refl
-enters_writes (Serving asked next owed) v s = refl
-enters_writes (Filling next last) v s = refl
+enters_writes phase v s = refl
 
 sends_due : (s : Pair) (d : Hub.Due) → packet_limit ≤ length s.buffers.out → is_shut s.hub.phase ≡ false → d ≡ hub_due s.hub.phase s →
     told (hub_posts d.packet d.then s) ≡ unless_short sends s

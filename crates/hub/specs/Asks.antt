@@ -12,7 +12,7 @@ use Rattle.rules.specs.Sides.{hub_side_of}
 abbrev pub awaits : Pair → Pair
 awaits s = hub_side_of (hub_leaves Waiting (wiped s))
 
--- a message that is too long is told before a short buffer
+-- a message that is too long is reported before a short buffer
 abbrev pub tells : List ℕ → Pair → Done
 tells m s = cond (lent_short (Tell m) s) (refuses ShortBuffer s) (tell m s)
 

@@ -20,7 +20,6 @@ due_of (Packet packet then) s = Hub.due (value_of packet) (enters then s)
 
 -- it can be written: a message is held, and a packet is valid
 abbrev pub Writable : Meaning → Due → Type 0
-Writable log Nothing = Unit {0}
-Writable log Shut = Unit {0}
 Writable log (Message number then) = has log number ≡ true
 Writable log (Packet packet then) = Valid (value_of packet)
+Writable log due = Unit {0}

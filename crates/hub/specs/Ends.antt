@@ -12,11 +12,18 @@ use Rattle.hub.specs.declared.hubs.Hub.{Hub}
 -- the meaning of a hub whose frame lies at the front of this buffer
 abbrev pub end_of : Hub → List ℕ → HubEnd
 end_of h buffer =
-    record { phase = h.state.phase; row = h.state.row; frame = take h.filled buffer; unsent = h.unsent; silent = h.silent; waited = h.waited }
+    record {
+      phase = h.state.phase;
+      row = h.state.row;
+      frame = take h.filled buffer;
+      unsent = h.unsent;
+      silent = h.silent;
+      waited = h.waited;
+    }
 
 -- with nobody logged in, in this phase, and frame and counts cleared
 abbrev pub cleared_in : HubPhase → Hub → Hub
-cleared_in phase h = record { state = left_in phase; finished = h.finished; filled = 0; unsent = 0; silent = 0; waited = 0 }
+cleared_in phase h = record h { state = left_in phase; filled = 0; unsent = 0; silent = 0; waited = 0 }
 
 -- its session, in this log
 abbrev pub running_of : Hub → Meaning → Running

@@ -4,9 +4,9 @@ use Rattle.wire.specs.declared.letters.Letter.{Letter}
 use Rattle.rules.specs.State.{Pair, Outcome}
 use Rattle.rules.specs.Hub.{Sending, hub_sends}
 
--- a send, but for the packet that it wrote: its caller is told the letter
+-- a send, but for the packet that it wrote: its caller gets the letter
 abbrev pub told : Sending → Outcome (Option Letter)
-told x = record { answer = x.answer; after = x.after }
+told sending = record { answer = sending.answer; after = sending.after }
 
 abbrev pub sends : Pair → Outcome (Option Letter)
 sends s = told (hub_sends s)

@@ -3,7 +3,7 @@ use Rattle.std.specs.Prelude.{List, None}
 use Rattle.message_log.specs.Meaning.{Meaning}
 use Rattle.account.specs.declared.rows.Row.{Row}
 use Rattle.rules.specs.declared.phases.HubPhase.{HubPhase}
-use Rattle.rules.specs.declared.phases.HubPhase.TheVariants.{Shut, Waiting, Answering, Rejecting, Serving, Filling}
+use Rattle.rules.specs.declared.phases.HubPhase.TheVariants.{Shut, Waiting}
 use Rattle.rules.specs.State.{Pair}
 use Rattle.rules.specs.Changes.{hub_to, hub_leaves}
 use Rattle.hub.specs.declared.state.HubState.{HubState}
@@ -17,25 +17,16 @@ abbrev pub shut : HubState
 shut = left_in Shut
 
 -- a pair whose hub stands so, with this log and these rows: frame, counts and all else are those of the pair
-abbrev pub stands_in : HubState → Meaning → List Row → Pair → Pair
-stands_in f log rows p =
-    record {
-      running = record { log = log; finished = p.running.finished };
-      hub = record { phase = f.phase; row = f.row; frame = p.hub.frame; unsent = p.hub.unsent; silent = p.hub.silent; waited = p.hub.waited };
-      seat = p.seat;
-      held = p.held;
-      up = p.up;
-      down = p.down;
+abbrev pub with_state : HubState → Meaning → List Row → Pair → Pair
+with_state f log rows p =
+    record p {
+      running = record p.running { log = log };
+      hub = record p.hub { phase = f.phase; row = f.row };
       rows = rows;
-      account = p.account;
-      buffers = p.buffers;
     }
 
 -- a phase is entered: where the hub is shut or waits for a login, nobody is logged in
 abbrev pub enters : HubPhase → Pair → Pair
 enters Shut s = hub_leaves Shut s
 enters Waiting s = hub_leaves Waiting s
-enters (Answering asked) s = hub_to (Answering asked) s
-enters (Rejecting status) s = hub_to (Rejecting status) s
-enters (Serving asked next owed) s = hub_to (Serving asked next owed) s
-enters (Filling next last) s = hub_to (Filling next last) s
+enters phase s = hub_to phase s

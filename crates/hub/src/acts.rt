@@ -6,11 +6,12 @@ ghost use Rattle.account.specs.Requests.{asked};
 ghost use Rattle.packet.specs.Meanings.{value_of};
 ghost use Rattle.rules.specs.State.{Pair};
 ghost use Rattle.rules.specs.Hub.{hub_acts, logs_in, refills};
-ghost use Rattle.hub.specs.State.{stands_in};
+ghost use Rattle.hub.specs.State.{with_state};
 ghost use Rattle.hub.specs.Acts.{closing};
 
 use crate::state::HubState;
 use account::Accounts;
+use framing::MESSAGE_OFFSET;
 use message_log::Log;
 use packet::{Login, Packet};
 use rules::{HubPhase, Received};
@@ -18,13 +19,17 @@ use wire::{Field, Letter, PacketFault};
 
 impl HubState {
     /// Acts on a packet, by the phase. What is wrong with the packet is passed on with nothing changed.
-    pub fn act<G: Log>(
+    pub(crate) fn act<G: Log>(
         &mut self,
         packet: Packet<'_>,
         log: &G,
         accounts: &mut Accounts,
     ) -> Result<Received, PacketFault>
-        ensures { (p : Pair) → closing result (stands_in self.new (G.Log.view log.now) accounts.new.rows p) ≡ hub_acts self.old.phase (value_of packet.entry) (stands_in self.old (G.Log.view log.now) accounts.old.rows p) }
+        ensures { (p : Pair) →
+            let held = G.Log.view log.now in
+            let before = with_state self.old held accounts.old.rows p in
+            let after = with_state self.new held accounts.new.rows p in
+            closing result after ≡ hub_acts self.old.phase (value_of packet.entry) before }
     {
         match (self.phase, packet) {
             (HubPhase::Waiting, Packet::LoginRequest(login)) => {
@@ -38,7 +43,7 @@ impl HubState {
                 HubPhase::Serving { .. } | HubPhase::Filling { .. },
                 Packet::Unsequenced { message },
             ) => Ok(Received::Message {
-                place: 3,
+                offset: MESSAGE_OFFSET,
                 length: message.len(),
             }),
             (HubPhase::Serving { .. } | HubPhase::Filling { .. }, Packet::LogoutRequest { .. }) => {
@@ -61,7 +66,11 @@ impl HubState {
 
     // Decides a login, which is to be answered then.
     fn log_in<G: Log>(&mut self, login: Login<'_>, log: &G, accounts: &mut Accounts)
-        ensures { (p : Pair) → stands_in self.new (G.Log.view log.now) accounts.new.rows p ≡ logs_in (asked login.entry) (stands_in self.old (G.Log.view log.now) accounts.old.rows p) }
+        ensures { (p : Pair) →
+            let held = G.Log.view log.now in
+            let before = with_state self.old held accounts.old.rows p in
+            let after = with_state self.new held accounts.new.rows p in
+            after ≡ logs_in (asked login.entry) before }
     {
         match accounts.admit(login, log.session(), log.count() as u64) {
             Ok(row) => {
@@ -76,7 +85,10 @@ impl HubState {
 
     // A retransmission is asked for, of what is held now.
     fn refill<G: Log>(&mut self, start: u64, end: u64, log: &G) -> Result<Received, PacketFault>
-        ensures { (rows : List Row) (p : Pair) → closing result (stands_in self.new (G.Log.view log.now) rows p) ≡ refills start end (stands_in self.old (G.Log.view log.now) rows p) }
+        ensures { (rows : List Row) (p : Pair) →
+            let before = with_state self.old (G.Log.view log.now) rows p in
+            let after = with_state self.new (G.Log.view log.now) rows p in
+            closing result after ≡ refills start end before }
     {
         if start == 0 {
             return Err(PacketFault::WrongContent(Field::Start));

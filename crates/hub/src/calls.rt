@@ -27,7 +27,12 @@ impl Hub {
     /// A seat connects: the down line is cleared, and the hub waits for a login, with frame and counts cleared. A login
     /// that was served is over.
     pub fn await_login<D: Line>(&mut self, accounts: &mut Accounts, down: &mut D)
-        ensures { (log : Meaning) (up : LineView) (frame out : List ℕ) → side_of self.new log (cleared up) (D.Line.view down.new) accounts.new.rows frame out ≡ awaits (side_of self.old log up (D.Line.view down.old) accounts.old.rows frame out) }
+        ensures { (log : Meaning) (up : LineView) (frame out : List ℕ) →
+            let down_before = D.Line.view down.old in
+            let down_after = D.Line.view down.new in
+            let before = side_of self.old log up down_before accounts.old.rows frame out in
+            let after = side_of self.new log (cleared up) down_after accounts.new.rows frame out in
+            after ≡ awaits before }
     {
         down.clear();
         self.reset(HubPhase::Waiting, accounts);
@@ -35,7 +40,11 @@ impl Hub {
 
     /// Its connection is cut, and the lines are cleared: it is shut, with frame and counts cleared.
     pub fn cut(&mut self, accounts: &mut Accounts)
-        ensures { (log : Meaning) (up down : LineView) (frame out : List ℕ) → side_of self.new log (cleared up) (cleared down) accounts.new.rows frame out ≡ hub_side_of (cut (side_of self.old log up down accounts.old.rows frame out)) }
+        ensures { (log : Meaning) (up down : LineView) (frame out : List ℕ) →
+            let before = side_of self.old log up down accounts.old.rows frame out in
+            let rows = accounts.new.rows in
+            let after = side_of self.new log (cleared up) (cleared down) rows frame out in
+            after ≡ hub_side_of (cut before) }
     {
         self.reset(HubPhase::Shut, accounts);
     }
@@ -60,7 +69,10 @@ impl Hub {
         down: &mut D,
         out: &mut [u8],
     ) -> Result<(), Refusal>
-        ensures { (log : Meaning) (up : LineView) (rows : List Row) (frame : List ℕ) → answered result (side_of self.new log up (D.Line.view down.new) rows frame out.new) ≡ tells message.now (side_of self.old log up (D.Line.view down.old) rows frame out.old) }
+        ensures { (log : Meaning) (up : LineView) (rows : List Row) (frame : List ℕ) →
+            let before = side_of self.old log up (D.Line.view down.old) rows frame out.old in
+            let after = side_of self.new log up (D.Line.view down.new) rows frame out.new in
+            answered result after ≡ tells message.now before }
     {
         if message.len() > MESSAGE_LIMIT {
             return Err(Refusal::MessageTooLong);
@@ -80,14 +92,18 @@ impl Hub {
 
     /// A tick passes: the counts go up. A hub that serves ends a connection that was silent for too long, and one that
     /// waited too long for a login says goodbye. Refuses by `ShortBuffer`, with nothing changed.
-    #[tactic(auto, using(crate::proofs::Asks::times_granted))]
     pub fn tick<D: Line>(
         &mut self,
         accounts: &mut Accounts,
         down: &mut D,
         out: &mut [u8],
     ) -> Result<(), Refusal>
-        ensures { (log : Meaning) (up : LineView) (frame : List ℕ) → answered result (side_of self.new log up (D.Line.view down.new) accounts.new.rows frame out.new) ≡ unless_short times (side_of self.old log up (D.Line.view down.old) accounts.old.rows frame out.old) }
+        ensures { (log : Meaning) (up : LineView) (frame : List ℕ) →
+            let down_before = D.Line.view down.old in
+            let down_after = D.Line.view down.new in
+            let before = side_of self.old log up down_before accounts.old.rows frame out.old in
+            let after = side_of self.new log up down_after accounts.new.rows frame out.new in
+            answered result after ≡ unless_short times before }
     {
         if out.len() < PACKET_LIMIT {
             return Err(Refusal::ShortBuffer);
@@ -102,9 +118,14 @@ impl Hub {
     // Ends a connection that was silent for too long, and a wait for a login that was too long.
     fn time_out<D: Line>(&mut self, accounts: &mut Accounts, down: &mut D, out: &mut [u8])
         requires { packet_limit ≤ length out.old }
-        ensures { (log : Meaning) (up : LineView) (frame : List ℕ) → side_of self.new log up (D.Line.view down.new) accounts.new.rows frame out.new ≡ hub_timed self.old.state.phase (side_of self.old log up (D.Line.view down.old) accounts.old.rows frame out.old) }
+        ensures { (log : Meaning) (up : LineView) (frame : List ℕ) →
+            let down_before = D.Line.view down.old in
+            let down_after = D.Line.view down.new in
+            let before = side_of self.old log up down_before accounts.old.rows frame out.old in
+            let after = side_of self.new log up down_after accounts.new.rows frame out.new in
+            after ≡ hub_timed self.old.state.phase before }
     {
-        match self.state.phase() {
+        match self.state.phase {
             HubPhase::Waiting if self.waited > WAITING_LIMIT => {
                 self.dismiss(GoodByeReason::LoginTimeout, accounts, down, out);
             }

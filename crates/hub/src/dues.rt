@@ -5,7 +5,7 @@ ghost use Rattle.account.specs.declared.rows.Row.{Row};
 ghost use Rattle.message_log.specs.Calls.{has};
 ghost use Rattle.rules.specs.State.{Pair};
 ghost use Rattle.rules.specs.Hub.{hub_due};
-ghost use Rattle.hub.specs.State.{stands_in};
+ghost use Rattle.hub.specs.State.{with_state};
 ghost use Rattle.hub.specs.Dues.{due_of, Writable};
 
 use crate::state::HubState;
@@ -17,7 +17,7 @@ use wire::Status;
 
 /// What is due, and the phase once it is written.
 #[derive(Clone, Copy)]
-pub enum Due {
+pub(crate) enum Due {
     /// Nothing.
     Nothing,
     /// Nothing, and the hub is to be shut: a fill is sent.
@@ -36,8 +36,11 @@ pub enum Due {
 
 impl HubState {
     /// What is due after so many ticks in which nothing was sent, in a session that is finished or not.
-    pub fn due<G: Log>(&self, unsent: u16, finished: bool, log: &G) -> Due
-        ensures due { (rows : List Row) (p : Pair) → p.running.finished ≡ finished → p.hub.unsent ≡ unsent → due_of result (stands_in self.now (G.Log.view log.now) rows p) ≡ hub_due self.now.phase (stands_in self.now (G.Log.view log.now) rows p) }
+    pub(crate) fn due<G: Log>(&self, unsent: u16, finished: bool, log: &G) -> Due
+        ensures due { (rows : List Row) (p : Pair) →
+            let now = with_state self.now (G.Log.view log.now) rows p in
+            p.running.finished ≡ finished → p.hub.unsent ≡ unsent →
+            due_of result now ≡ hub_due self.now.phase now }
         ensures valid { Writable (G.Log.view log.now) result }
     {
         let highest = log.count() as u64;

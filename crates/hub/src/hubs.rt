@@ -28,7 +28,9 @@ pub struct Hub {
 impl Hub {
     /// A hub with no connection, whose session is not finished.
     pub fn new() -> Hub
-        ensures { (log : Meaning) (up down : LineView) (rows : List Row) (frame out : List ℕ) → side_of result log up down rows frame out ≡ hub_side (unfinished log) no_hub up down rows frame out }
+        ensures { (log : Meaning) (up down : LineView) (rows : List Row) (frame out : List ℕ) →
+            let made = side_of result log up down rows frame out in
+            made ≡ hub_side (unfinished log) no_hub up down rows frame out }
     {
         Hub {
             state: HubState::new(),
@@ -44,7 +46,7 @@ impl Hub {
     pub fn phase(&self) -> HubPhase
         ensures { (frame : List ℕ) → result ≡ (end_of self.now frame).phase }
     {
-        self.state.phase()
+        self.state.phase
     }
 
     /// Whether publishing is finished in the session of its log.

@@ -1,6 +1,6 @@
 //! The hub: the end of a connection that holds the messages and sends them.
 //!
-//! A `Hub` holds no log, table, line or buffer: each call is lent what it needs. Its `State` is where it stands with
+//! A `Hub` holds no log, table, line or buffer: each call is lent what it needs. Its `HubState` is where it stands with
 //! its connection: the phase, and the row of the account that is logged in.
 //!
 //! Left out: the seat, and what clears the up line. In the order a reader meets them: `Hub`, its `receive`, what it

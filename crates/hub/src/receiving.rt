@@ -3,7 +3,9 @@
 ghost use Rattle.std.specs.Prelude.{◌≡◌, ℕ, ◌≤◌, List, length, take};
 ghost use Rattle.wire.specs.Limits.{packet_limit};
 ghost use Rattle.line.specs.Lines.{LineView};
-ghost use Rattle.rules.specs.Frames.{lack, Free};
+ghost use Rattle.rules.specs.Frames.{lack, judged, Free};
+ghost use Rattle.rules.specs.Hub.{hub_letters};
+ghost use Rattle.packet.specs.Meanings.{answer_of};
 ghost use Rattle.framing.specs.Calling.{Fewer};
 ghost use Rattle.hub.specs.Acts.{closing};
 ghost use Rattle.hub.specs.Ends.{side_of};
@@ -11,9 +13,10 @@ ghost use Rattle.hub.specs.Receives.{Receives, hears};
 
 use crate::hubs::Hub;
 use account::Accounts;
-use framing::{fill, judge};
+use framing::{fill, is_part, judge};
 use line::{Line, SteadyLine};
 use message_log::Log;
+use packet::Packet;
 use rules::Received;
 use wire::{GoodByeReason, PACKET_LIMIT, PacketFault, Refusal};
 
@@ -30,7 +33,12 @@ impl Hub {
         frame: &mut [u8],
         out: &mut [u8],
     ) -> Result<Received, Refusal>
-        ensures { Receives (side_of self.old (G.Log.view log.now) (U.Line.view up.old) (D.Line.view down.old) accounts.old.rows frame.old out.old) result (side_of self.new (G.Log.view log.now) (U.Line.view up.new) (D.Line.view down.new) accounts.new.rows frame.new out.new) }
+        ensures { let held = G.Log.view log.now in
+            let before = side_of self.old held (U.Line.view up.old) (D.Line.view down.old)
+            accounts.old.rows frame.old out.old in
+            let after = side_of self.new held (U.Line.view up.new) (D.Line.view down.new)
+            accounts.new.rows frame.new out.new in
+            Receives before result after }
     {
         if frame.len() < PACKET_LIMIT {
             return Err(Refusal::ShortBuffer);
@@ -46,7 +54,7 @@ impl Hub {
             Ok(received) => Ok(received),
             Err(fault) => {
                 self.dismiss(GoodByeReason::BadPacket, accounts, down, out);
-                Err(Refusal::BadPacket(fault))
+                Err(fault.into())
             }
         }
     }
@@ -61,8 +69,15 @@ impl Hub {
         frame: &mut [u8],
     ) -> Result<Received, PacketFault>
         requires { packet_limit ≤ length frame.old }
-        ensures outcome { (down : LineView) (out : List ℕ) → closing result (side_of self.new (G.Log.view log.now) (U.Line.view up.new) down accounts.new.rows frame.new out) ≡ hears (side_of self.old (G.Log.view log.now) (U.Line.view up.old) down accounts.old.rows frame.old out) (U.Line.view up.new).room }
-        ensures free { Free (U.Line.view up.old) (lack (take self.old.filled frame.old)) (U.Line.view up.new).room }
+        ensures outcome { (down : LineView) (out : List ℕ) →
+            let held = G.Log.view log.now in
+            let up_before = U.Line.view up.old in
+            let up_after = U.Line.view up.new in
+            let before = side_of self.old held up_before down accounts.old.rows frame.old out in
+            let after = side_of self.new held up_after down accounts.new.rows frame.new out in
+            closing result after ≡ hears before up_after.room }
+        ensures free { let lacking = lack (take self.old.filled frame.old) in
+            Free (U.Line.view up.old) lacking (U.Line.view up.new).room }
         ensures fewer { Fewer result (U.Line.view up.old) (U.Line.view up.new) }
     {
         let count = fill(up, frame, self.filled);
@@ -72,12 +87,22 @@ impl Hub {
         let filled = self.filled + count;
         self.filled = 0;
         self.silent = 0;
-        match judge(&frame[0..filled], self.state.letters())? {
+        match self.judge(&frame[0..filled])? {
             None => {
                 self.filled = filled;
                 Ok(Received::Part)
             }
             Some(packet) => self.state.act(packet, log, accounts),
         }
+    }
+
+    // What it says of its frame. Most takes leave a part, and no packet is read then.
+    fn judge<'a>(&self, bytes: &'a [u8]) -> Result<Option<Packet<'a>>, PacketFault>
+        ensures { answer_of result ≡ judged (hub_letters self.now.state.phase) bytes.now }
+    {
+        if is_part(bytes) {
+            return Ok(None);
+        }
+        judge(bytes, self.state.letters())
     }
 }

@@ -35,7 +35,13 @@ impl Hub {
         down: &mut D,
         out: &mut [u8],
     ) -> Result<Option<Letter>, Refusal>
-        ensures { (up : LineView) (frame : List ℕ) → answered result (side_of self.new (G.Log.view log.now) up (D.Line.view down.new) accounts.new.rows frame out.new) ≡ unless_short sends (side_of self.old (G.Log.view log.now) up (D.Line.view down.old) accounts.old.rows frame out.old) }
+        ensures { (up : LineView) (frame : List ℕ) →
+            let held = G.Log.view log.now in
+            let down_before = D.Line.view down.old in
+            let down_after = D.Line.view down.new in
+            let before = side_of self.old held up down_before accounts.old.rows frame out.old in
+            let after = side_of self.new held up down_after accounts.new.rows frame out.new in
+            answered result after ≡ unless_short sends before }
     {
         if out.len() < PACKET_LIMIT {
             return Err(Refusal::ShortBuffer);
@@ -72,7 +78,10 @@ impl Hub {
         requires valid { Valid (value_of packet) }
         requires long { packet_limit ≤ length out.old }
         ensures answer { result ≡ roomy (value_of packet.entry) (D.Line.view down.old) }
-        ensures after { (log : Meaning) (up : LineView) (rows : List Row) (frame : List ℕ) → side_of self.new log up (D.Line.view down.new) rows frame out.new ≡ hub_tells (value_of packet.entry) (side_of self.old log up (D.Line.view down.old) rows frame out.old) }
+        ensures after { (log : Meaning) (up : LineView) (rows : List Row) (frame : List ℕ) →
+            let before = side_of self.old log up (D.Line.view down.old) rows frame out.old in
+            let after = side_of self.new log up (D.Line.view down.new) rows frame out.new in
+            after ≡ hub_tells (value_of packet.entry) before }
     {
         post(packet, down, out)?;
         self.unsent = 0;
@@ -89,8 +98,13 @@ impl Hub {
     ) -> Result<(), Refusal>
         requires there { has (G.Log.view log.now) number ≡ true }
         requires long { packet_limit ≤ length out.old }
-        ensures answer { result ≡ roomy (sequenced number (nth (G.Log.view log.now) number)) (D.Line.view down.old) }
-        ensures after { (up : LineView) (rows : List Row) (frame : List ℕ) → side_of self.new (G.Log.view log.now) up (D.Line.view down.new) rows frame out.new ≡ hub_tells (sequenced number (nth (G.Log.view log.now) number)) (side_of self.old (G.Log.view log.now) up (D.Line.view down.old) rows frame out.old) }
+        ensures answer { let packet = sequenced number (nth (G.Log.view log.now) number) in
+            result ≡ roomy packet (D.Line.view down.old) }
+        ensures after { (up : LineView) (rows : List Row) (frame : List ℕ) →
+            let held = G.Log.view log.now in
+            let before = side_of self.old held up (D.Line.view down.old) rows frame out.old in
+            let after = side_of self.new held up (D.Line.view down.new) rows frame out.new in
+            after ≡ hub_tells (sequenced number (nth held number)) before }
     {
         post_message(number, log, down, out)?;
         self.unsent = 0;
@@ -106,7 +120,12 @@ impl Hub {
         out: &mut [u8],
     )
         requires { packet_limit ≤ length out.old }
-        ensures { (log : Meaning) (up : LineView) (frame : List ℕ) → side_of self.new log up (D.Line.view down.new) accounts.new.rows frame out.new ≡ hub_gone reason (side_of self.old log up (D.Line.view down.old) accounts.old.rows frame out.old) }
+        ensures { (log : Meaning) (up : LineView) (frame : List ℕ) →
+            let down_before = D.Line.view down.old in
+            let down_after = D.Line.view down.new in
+            let before = side_of self.old log up down_before accounts.old.rows frame out.old in
+            let after = side_of self.new log up down_after accounts.new.rows frame out.new in
+            after ≡ hub_gone reason before }
     {
         let _ = self.write(good_bye(reason), down, out);
         self.state.leave(HubPhase::Shut, accounts);

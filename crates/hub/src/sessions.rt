@@ -15,7 +15,10 @@ impl Hub {
     /// Publishes a message: it is appended to the log. Refuses as the log does, and then by `SessionFinished`; a
     /// refusal changes nothing.
     pub fn publish<G: Log>(&self, message: &[u8], log: &mut G) -> Result<(), Refusal>
-        ensures { (up down : LineView) (rows : List Row) (frame out : List ℕ) → answered result (side_of self.now (G.Log.view log.new) up down rows frame out) ≡ publish message.now (side_of self.now (G.Log.view log.old) up down rows frame out) }
+        ensures { (up down : LineView) (rows : List Row) (frame out : List ℕ) →
+            let before = side_of self.now (G.Log.view log.old) up down rows frame out in
+            let after = side_of self.now (G.Log.view log.new) up down rows frame out in
+            answered result after ≡ publish message.now before }
     {
         log.would_take(message.len())?;
         if self.finished {
@@ -26,7 +29,10 @@ impl Hub {
 
     /// Publishing is finished. Refuses by `SessionFinished` where it was already.
     pub fn finish(&mut self) -> Result<(), Refusal>
-        ensures { (log : Meaning) (up down : LineView) (rows : List Row) (frame out : List ℕ) → answered result (side_of self.new log up down rows frame out) ≡ finish (side_of self.old log up down rows frame out) }
+        ensures { (log : Meaning) (up down : LineView) (rows : List Row) (frame out : List ℕ) →
+            let before = side_of self.old log up down rows frame out in
+            let after = side_of self.new log up down rows frame out in
+            answered result after ≡ finish before }
     {
         if self.finished {
             return Err(Refusal::SessionFinished);
@@ -38,7 +44,10 @@ impl Hub {
     /// Begins the next session, which is not finished. Refuses by `HubBusy` where it is bound to a login, and by
     /// `LastSession`; a refusal changes nothing.
     pub fn roll<G: Log>(&mut self, log: &mut G) -> Result<(), Refusal>
-        ensures { (up down : LineView) (rows : List Row) (frame out : List ℕ) → answered result (side_of self.new (G.Log.view log.new) up down rows frame out) ≡ roll (side_of self.old (G.Log.view log.old) up down rows frame out) }
+        ensures { (up down : LineView) (rows : List Row) (frame out : List ℕ) →
+            let before = side_of self.old (G.Log.view log.old) up down rows frame out in
+            let after = side_of self.new (G.Log.view log.new) up down rows frame out in
+            answered result after ≡ roll before }
     {
         if self.state.is_busy() {
             return Err(Refusal::HubBusy);

@@ -6,7 +6,7 @@ ghost use Rattle.rules.specs.State.{Pair};
 ghost use Rattle.rules.specs.Changes.{unmarked};
 ghost use Rattle.rules.specs.Calls.{busy, is_serving};
 ghost use Rattle.rules.specs.Hub.{hub_letters, is_shut, listens};
-ghost use Rattle.hub.specs.State.{shut, left_in, stands_in, enters};
+ghost use Rattle.hub.specs.State.{shut, left_in, with_state, enters};
 
 use account::Accounts;
 use rules::HubPhase;
@@ -14,7 +14,7 @@ use wire::Letter;
 
 /// Where a hub stands with its connection.
 #[derive(Clone, Copy)]
-pub struct HubState {
+pub(crate) struct HubState {
     pub(crate) phase: HubPhase,
     /// The row of the account that is logged in.
     pub(crate) row: Option<usize>,
@@ -22,7 +22,7 @@ pub struct HubState {
 
 impl HubState {
     /// Shut, with nobody logged in.
-    pub fn new() -> HubState
+    pub(crate) fn new() -> HubState
         ensures { result ≡ shut }
     {
         HubState {
@@ -31,22 +31,15 @@ impl HubState {
         }
     }
 
-    /// Where it stands with its connection.
-    pub fn phase(&self) -> HubPhase
-        ensures { result ≡ self.now.phase }
-    {
-        self.phase
-    }
-
     /// Whether it has no connection.
-    pub fn is_shut(&self) -> bool
+    pub(crate) fn is_shut(&self) -> bool
         ensures { result ≡ is_shut self.now.phase }
     {
         matches!(self.phase, HubPhase::Shut)
     }
 
     /// Whether it takes from its line in its phase.
-    pub fn listens(&self) -> bool
+    pub(crate) fn listens(&self) -> bool
         ensures { result ≡ listens self.now.phase }
     {
         match self.phase {
@@ -56,7 +49,7 @@ impl HubState {
     }
 
     /// Whether it is bound to the session of its login.
-    pub fn is_busy(&self) -> bool
+    pub(crate) fn is_busy(&self) -> bool
         ensures { result ≡ busy self.now.phase }
     {
         match self.phase {
@@ -67,27 +60,30 @@ impl HubState {
     }
 
     /// Whether it serves a login.
-    pub fn is_serving(&self) -> bool
+    pub(crate) fn is_serving(&self) -> bool
         ensures { result ≡ is_serving self.now.phase }
     {
         matches!(self.phase, HubPhase::Serving { .. })
     }
 
     /// The letters that it takes in its phase.
-    pub fn letters(&self) -> &'static [Letter]
+    pub(crate) fn letters(&self) -> &'static [Letter]
         ensures { result.now ≡ hub_letters self.now.phase }
     {
         match self.phase {
             HubPhase::Shut | HubPhase::Answering { .. } | HubPhase::Rejecting { .. } => &[],
             HubPhase::Waiting => &WAITING,
-            HubPhase::Serving { asked: 0, .. } => &SERVING,
-            HubPhase::Serving { .. } | HubPhase::Filling { .. } => &SERVING[..SERVING.len() - 1],
+            HubPhase::Serving { asked: 0, .. } => &SERVING_FETCH,
+            HubPhase::Serving { .. } | HubPhase::Filling { .. } => &SERVING,
         }
     }
 
     /// Enters a phase. Where it is shut or waits for a login nobody is logged in.
-    pub fn enter(&mut self, phase: HubPhase, accounts: &mut Accounts)
-        ensures { (log : Meaning) (p : Pair) → stands_in self.new log accounts.new.rows p ≡ enters phase (stands_in self.old log accounts.old.rows p) }
+    pub(crate) fn enter(&mut self, phase: HubPhase, accounts: &mut Accounts)
+        ensures { (log : Meaning) (p : Pair) →
+            let before = with_state self.old log accounts.old.rows p in
+            let after = with_state self.new log accounts.new.rows p in
+            after ≡ enters phase before }
     {
         match phase {
             HubPhase::Shut | HubPhase::Waiting => self.leave(phase, accounts),
@@ -99,7 +95,7 @@ impl HubState {
     }
 
     /// Nobody is logged in any more, in this phase: the mark of a row goes.
-    pub fn leave(&mut self, phase: HubPhase, accounts: &mut Accounts)
+    pub(crate) fn leave(&mut self, phase: HubPhase, accounts: &mut Accounts)
         ensures after { self.new ≡ left_in phase }
         ensures rows { accounts.new.rows ≡ unmarked accounts.old.rows self.old.row }
     {
@@ -113,8 +109,15 @@ impl HubState {
 
 const WAITING: [Letter; 1] = [Letter::LoginRequest];
 
-// The retransmission request stands last: it is taken only where the login asked for no message.
-const SERVING: [Letter; 5] = [
+const SERVING: [Letter; 4] = [
+    Letter::Unsequenced,
+    Letter::LogoutRequest,
+    Letter::SeatHeartbeat,
+    Letter::Test,
+];
+
+// The login asked for no message, so a retransmission may be requested.
+const SERVING_FETCH: [Letter; 5] = [
     Letter::Unsequenced,
     Letter::LogoutRequest,
     Letter::SeatHeartbeat,

@@ -8,6 +8,7 @@ use Rattle.wire.specs.Letters.{letter_byte}
 use Rattle.packet.specs.Values.{Value, Valid, encode, letter}
 use Rattle.packet.specs.Decoding.{Decoded, part, whole}
 use Rattle.rules.specs.Frames.{lack, among, placed, judged}
+use Rattle.rules.proofs.Frames.{part_placed}
 use Rattle.promises.proofs.Frames.{Short, Arrived, not_yet, come, arrives}
 use Rattle.promises.proofs.Packets.{sesm}
 
@@ -20,10 +21,10 @@ same_whole true r v u e h = let q : ◌≡◌ {A = Result Decoded PacketFault} (
 same_whole false r v u e h = let q : ◌≡◌ {A = Result Decoded PacketFault} (Err OutOfPlace) (Ok (whole u)) = sym (ap (placed false) e) ∙ h in (cc)
 
 part_not_whole : (here : Bool) (r : Result Decoded PacketFault) (u : Value) → r ≡ Ok part → placed here r ≡ Ok (whole u) → ⊥
-part_not_whole here r u e h = let q : ◌≡◌ {A = Result Decoded PacketFault} (Ok part) (Ok (whole u)) = sym (ap (placed here) e) ∙ h in (cc)
+part_not_whole here r u e h = let q : ◌≡◌ {A = Result Decoded PacketFault} (Ok part) (Ok (whole u)) = sym (ap (placed here) e ∙ part_placed here) ∙ h in (cc)
 
 part_no_fault : (here : Bool) (r : Result Decoded PacketFault) (fault : PacketFault) → r ≡ Ok part → placed here r ≡ Err fault → ⊥
-part_no_fault here r fault e h = let q : ◌≡◌ {A = Result Decoded PacketFault} (Ok part) (Err fault) = sym (ap (placed here) e) ∙ h in (cc)
+part_no_fault here r fault e h = let q : ◌≡◌ {A = Result Decoded PacketFault} (Ok part) (Err fault) = sym (ap (placed here) e ∙ part_placed here) ∙ h in (cc)
 
 whole_no_fault : (here : Bool) (r : Result Decoded PacketFault) (v : Value) (fault : PacketFault) → here ≡ true → r ≡ Ok (whole v) → placed here r ≡ Err fault → ⊥
 whole_no_fault here r v fault t e h = let q : ◌≡◌ {A = Result Decoded PacketFault} (Ok (whole v)) (Err fault) = sym (ap (λ b. placed b (Ok (whole v))) t) ∙ sym (ap (placed here) e) ∙ h in (cc)

@@ -24,13 +24,13 @@ past true c x y r s e = (cc)
 past false true x y r s e = (refl, e)
 past false false x y r s e = (cc)
 
-first_begins : (xs ys : List Message) → first_of xs ys ≡ true → IsPrefix xs ys
-first_begins [] ys e = (ys, refl)
-first_begins (x ∷ xs) [] e = (cc)
-first_begins (x ∷ xs) (y ∷ ys) e =
+first_of_is_prefix : (xs ys : List Message) → first_of xs ys ≡ true → IsPrefix xs ys
+first_of_is_prefix [] ys e = (ys, refl)
+first_of_is_prefix (x ∷ xs) [] e = (cc)
+first_of_is_prefix (x ∷ xs) (y ∷ ys) e =
     let p = and_parts (bytes_eq x y) (first_of xs ys) e in
     let q : x ≡ y = (bytes_eq-Decides x y).0 p.0 in
-    let r = first_begins xs ys p.1 in
+    let r = first_of_is_prefix xs ys p.1 in
     (r.0, ap (λ z. z ∷ ys) (sym q) ∙ ap (λ z. x ∷ z) r.1)
 
 follows_begins : (seat hub : Meaning) → follows seat hub ≡ true → ((seat.session ≡ 0) × (seat.messages ≡ [])) ⊎ ((seat.session ≡ hub.session) × IsPrefix seat.messages hub.messages)
@@ -38,7 +38,7 @@ follows_begins seat hub =
     cond_both (eqb seat.session 0) (eqb (length seat.messages) 0) (eqb seat.session hub.session && first_of seat.messages hub.messages)
     (λ b. b ≡ true → ((seat.session ≡ 0) × (seat.messages ≡ [])) ⊎ ((seat.session ≡ hub.session) × IsPrefix seat.messages hub.messages))
     (λ t e. inl (eqb-true _ _ t, nil_from_length seat.messages (eqb-true _ _ e)))
-    (λ t e. let p = and_parts _ _ e in inr (eqb-true _ _ p.0, first_begins seat.messages hub.messages p.1))
+    (λ t e. let p = and_parts _ _ e in inr (eqb-true _ _ p.0, first_of_is_prefix seat.messages hub.messages p.1))
 
 begun_sound : (l : Meaning) → Log.Sound l → Log.Sound (begun l first_session)
 begun_sound l i = record { fits = omega arith; placed = omega arith; short = λ k. omega arith; bytes = λ k j. omega arith; byte = omega arith; silent = λ e. refl; size_within = i.size_within; overhead_limit = i.overhead_limit; places_within = i.places_within }
@@ -80,4 +80,4 @@ set_up_begins g s hs ss us ds e = go (account_of g.user g.computer g.protocol) r
         let b = follows_begins g.seat_log (started g.hub_log) p.0 in
         let t : Pair = record { running = record { log = started g.hub_log; finished = false }; hub = no_hub; seat = no_seat; held = g.seat_log; up = g.up; down = g.down; rows = g.rows; account = a; buffers = g.buffers } in
         let e : t ≡ s = cc in
-        subst SetUp e (record { shut = refl; apart = refl; unreported = refl; hub_log_sound = l.0; begun = l.1; seat_log_sound = ss; beginning = b; up_line = us; down_line = ds; user = w.0; computer = w.1; protocol = w.2 })
+        subst SetUp e (record { shut = refl; apart = refl; unreported = refl; hub_log_sound = l.0; begun = l.1; seat_log_sound = ss; follows = b; up_line = us; down_line = ds; user = w.0; computer = w.1; protocol = w.2 })

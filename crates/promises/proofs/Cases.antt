@@ -35,7 +35,7 @@ use Rattle.rules.specs.declared.answers.Received.TheVariants.{Nothing, Part, Act
 use Rattle.rules.specs.State.{Pair, Outcome}
 use Rattle.rules.specs.Changes.{with_up, with_down, with_held, with_log, grants, refuses, hub_to, hub_leaves, hub_admits, hub_writes, hub_took, seat_with, seat_to, seat_writes, seat_took}
 use Rattle.rules.specs.Frames.{lack, given, left, Free, judged}
-use Rattle.rules.specs.Hub.{hub_gone, hub_bad, listens, hub_letters, decided, logs_in, admitted, refills, Due, due, none_due, hub_acts, hub_judges, hub_hears, message_place, beat_after, first_number, owes, sent_all, hub_due, Sending, hub_posts, is_shut, hub_sends}
+use Rattle.rules.specs.Hub.{hub_gone, hub_bad, listens, hub_letters, decided, logs_in, admitted, refills, Due, due, none_due, hub_acts, hub_judges, hub_hears, message_offset, beat_after, first_number, owes, sent_all, hub_due, Sending, hub_posts, is_shut, hub_sends}
 use Rattle.rules.specs.Seat.{seat_gone, seat_bad, is_apart, seat_letters, suits, in_session, next_number, seat_rejected, seat_answered, seat_keeps, seat_skips, seat_message, seat_complete, seat_acts, seat_judges, seat_hears, seat_requested, live_due, seat_due, seat_posts, seat_sends}
 use Rattle.rules.specs.Calls.{Done, done, login_of, connected, connect, publishes, publish, finish, busy, last_session, roll, is_serving, is_live, tell, say, leave, hub_timed, seat_timed, waiting_limit, silence_limit}
 use Rattle.rules.specs.Rounds.{HubReceives, hub_deaf, hub_hears_bytes, SeatReceives, seat_deaf, seat_hears_bytes}
@@ -181,47 +181,22 @@ refills_acted s q n a e d z =
     (λ t. cond_both (ltb e a) (hub_bad (WrongContent Field.End) s) (grants (Acted L.RetransmissionRequest) (hub_to (Filling a (min e (count s.running.log))) s)) (HubActed s _ _) (λ u. hub_bad_lem _ _ _) (λ u. hub_refills q n a e d z))
 
 pub hub_acted : (s : Pair) (h : HubPhase) (v : Value) → HubActed s h v (hub_acts h v s)
-hub_acted s Shut v = hub_bad_lem _ _ _
 hub_acted s Waiting (login_request v u c p x n) = login_acted s v u c p x n
-hub_acted s Waiting (login_response t x n) = hub_bad_lem _ _ _
-hub_acted s Waiting (sequenced n m) = hub_bad_lem _ _ _
-hub_acted s Waiting (unsequenced m) = hub_bad_lem _ _ _
-hub_acted s Waiting synchronization_complete = hub_bad_lem _ _ _
-hub_acted s Waiting (retransmission_request a e) = hub_bad_lem _ _ _
-hub_acted s Waiting (logout_request r t) = hub_bad_lem _ _ _
-hub_acted s Waiting (good_bye r t) = hub_bad_lem _ _ _
-hub_acted s Waiting end_of_session = hub_bad_lem _ _ _
-hub_acted s Waiting hub_heartbeat = hub_bad_lem _ _ _
-hub_acted s Waiting seat_heartbeat = hub_bad_lem _ _ _
-hub_acted s Waiting (test t) = hub_bad_lem _ _ _
-hub_acted s (Answering q) v = hub_bad_lem _ _ _
-hub_acted s (Rejecting t) v = hub_bad_lem _ _ _
-hub_acted s (Serving q n d) (login_request v u c p x k) = hub_bad_lem _ _ _
-hub_acted s (Serving q n d) (login_response t x k) = hub_bad_lem _ _ _
-hub_acted s (Serving q n d) (sequenced k m) = hub_bad_lem _ _ _
+hub_acted s Waiting v = hub_bad_lem _ _ _
 hub_acted s (Serving q n d) (unsequenced m) = hub_stays _ _ _ (λ a e. (cc))
-hub_acted s (Serving q n d) synchronization_complete = hub_bad_lem _ _ _
 hub_acted s (Serving q n d) (retransmission_request a e) =
     cond_both (eqb q 0) (refills a e s) (hub_bad OutOfPlace s) (HubActed s _ _) (λ t. refills_acted s q n a e d (eqb-true _ _ t)) (λ t. hub_bad_lem _ _ _)
 hub_acted s (Serving q n d) (logout_request r t) = hub_leaves_lem _ _ _
-hub_acted s (Serving q n d) (good_bye r t) = hub_bad_lem _ _ _
-hub_acted s (Serving q n d) end_of_session = hub_bad_lem _ _ _
-hub_acted s (Serving q n d) hub_heartbeat = hub_bad_lem _ _ _
 hub_acted s (Serving q n d) seat_heartbeat = hub_stays _ _ _ (λ a e. (cc))
 hub_acted s (Serving q n d) (test t) = hub_stays _ _ _ (λ a e. (cc))
-hub_acted s (Filling n l) (login_request v u c p x k) = hub_bad_lem _ _ _
-hub_acted s (Filling n l) (login_response t x k) = hub_bad_lem _ _ _
-hub_acted s (Filling n l) (sequenced k m) = hub_bad_lem _ _ _
+hub_acted s (Serving q n d) v = hub_bad_lem _ _ _
 hub_acted s (Filling n l) (unsequenced m) = hub_stays _ _ _ (λ a e. (cc))
-hub_acted s (Filling n l) synchronization_complete = hub_bad_lem _ _ _
-hub_acted s (Filling n l) (retransmission_request a e) = hub_bad_lem _ _ _
 hub_acted s (Filling n l) (logout_request r t) = hub_leaves_lem _ _ _
-hub_acted s (Filling n l) (good_bye r t) = hub_bad_lem _ _ _
-hub_acted s (Filling n l) end_of_session = hub_bad_lem _ _ _
-hub_acted s (Filling n l) hub_heartbeat = hub_bad_lem _ _ _
 hub_acted s (Filling n l) seat_heartbeat =
     cond_both (leb n l) s (hub_leaves Shut s) (λ t. HubActed s (Filling n l) seat_heartbeat (grants (Acted L.SeatHeartbeat) t)) (λ t. hub_stays _ _ _ (λ a e. (cc))) (λ t. hub_leaves_lem _ _ _)
 hub_acted s (Filling n l) (test t) = hub_stays _ _ _ (λ a e. (cc))
+hub_acted s (Filling n l) v = hub_bad_lem _ _ _
+hub_acted s phase v = hub_bad_lem _ _ _
 
 -- the hub receives
 pub data HubHeard (s : Pair) : Outcome Received → Type 0 where
@@ -271,7 +246,7 @@ pub data SeatActed (s : Pair) : SeatPhase → Value → Outcome Received → Typ
   seat_passes : (n : ℕ) (m : List ℕ) → n < next_number s.held → SeatActed s Live (sequenced n m) (grants (Acted L.Sequenced) s)
   seat_skips_lem : (n e : ℕ) (m : List ℕ) → s.seat.fetch ≡ Some e → SeatActed s Live (sequenced n m) (grants (Acted L.Sequenced) s)
   seat_completes : s.seat.fetch ≡ None → SeatActed s Live synchronization_complete (grants (Acted L.SynchronizationComplete) (seat_with Live true s.seat.status s))
-  seat_told : (m : List ℕ) → SeatActed s Live (unsequenced m) (grants (Message message_place (length m)) s)
+  seat_told : (m : List ℕ) → SeatActed s Live (unsequenced m) (grants (Message message_offset (length m)) s)
   seat_beaten : SeatActed s Live hub_heartbeat (grants (Acted L.HubHeartbeat) s)
   seat_tested : (t : List ℕ) → SeatActed s Live (test t) (grants (Acted L.Test) s)
 
@@ -286,12 +261,7 @@ rejected_acted s v t = seat_leaves Asking v _ (record { phase = refl; in_step = 
 
 answered : (s : Pair) (t : Status) (x top : ℕ) → SeatActed s Asking (login_response t x top) (seat_answered t x top s)
 answered s Accepted x top = cond_both (suits s.seat.session x) (grants (Acted L.LoginResponse) (seat_with Live (s.seat.in_step || eqb (top + 1) s.seat.number) s.seat.status (with_held s (in_session s.held x)))) (seat_bad (WrongContent Field.Session) s) (SeatActed s Asking (login_response Accepted x top)) (λ t. seat_accepts x top t) (λ t. bad_acted s Asking _ _)
-answered s UnknownUser x top = rejected_acted s _ UnknownUser
-answered s SessionUnavailable x top = rejected_acted s _ SessionUnavailable
-answered s InvalidNumber x top = rejected_acted s _ InvalidNumber
-answered s WrongVersion x top = rejected_acted s _ WrongVersion
-answered s WrongProtocol x top = rejected_acted s _ WrongProtocol
-answered s AlreadyLoggedIn x top = rejected_acted s _ AlreadyLoggedIn
+answered s status x top = rejected_acted s _ status
 
 message_acted : (s : Pair) (n : ℕ) (m : List ℕ) → SeatActed s Live (sequenced n m) (seat_message n m s)
 message_acted s n m =
@@ -313,30 +283,17 @@ complete_acted s (Some e) q = bad_acted s Live _ _
 
 pub seat_acted : (s : Pair) (p : SeatPhase) (v : Value) → SeatActed s p v (seat_acts p v s)
 seat_acted s Apart v = bad_acted s Apart v _
-seat_acted s Asking (login_request v u c p x n) = bad_acted s _ _ _
 seat_acted s Asking (login_response t x n) = answered s t x n
-seat_acted s Asking (sequenced n m) = bad_acted s _ _ _
-seat_acted s Asking (unsequenced m) = bad_acted s _ _ _
-seat_acted s Asking synchronization_complete = bad_acted s _ _ _
-seat_acted s Asking (retransmission_request a e) = bad_acted s _ _ _
-seat_acted s Asking (logout_request r t) = bad_acted s _ _ _
 seat_acted s Asking (good_bye r t) = apart_acted s _ _ _
-seat_acted s Asking end_of_session = bad_acted s _ _ _
-seat_acted s Asking hub_heartbeat = bad_acted s _ _ _
-seat_acted s Asking seat_heartbeat = bad_acted s _ _ _
-seat_acted s Asking (test t) = bad_acted s _ _ _
-seat_acted s Live (login_request v u c p x n) = bad_acted s _ _ _
-seat_acted s Live (login_response t x n) = bad_acted s _ _ _
+seat_acted s Asking v = bad_acted s _ _ _
 seat_acted s Live (sequenced n m) = message_acted s n m
 seat_acted s Live (unsequenced m) = seat_told m
 seat_acted s Live synchronization_complete = complete_acted s s.seat.fetch refl
-seat_acted s Live (retransmission_request a e) = bad_acted s _ _ _
-seat_acted s Live (logout_request r t) = bad_acted s _ _ _
 seat_acted s Live (good_bye r t) = apart_acted s _ _ _
 seat_acted s Live end_of_session = apart_acted s _ _ _
 seat_acted s Live hub_heartbeat = seat_beaten
-seat_acted s Live seat_heartbeat = bad_acted s _ _ _
 seat_acted s Live (test t) = seat_tested t
+seat_acted s Live v = bad_acted s _ _ _
 
 -- the seat receives
 pub data SeatHeard (s : Pair) : Outcome Received → Type 0 where

@@ -37,7 +37,7 @@ use Rattle.rules.specs.Rounds.{HubReceives, SeatReceives, going, stop, continue,
 use Rattle.promises.specs.Book.{Message, Book}
 use Rattle.promises.specs.Runs.{IsPrefix, Note, GrantedRounds, no_round, round}
 use Rattle.promises.specs.Promises.{Able, rounds_needed, Level}
-use Rattle.promises.proofs.Fronts.{begins_length, begins_all, begins_next}
+use Rattle.promises.proofs.Fronts.{IsPrefix-length, IsPrefix-all, IsPrefix-next}
 use Rattle.promises.proofs.Frames.{Short, part_lacks}
 use Rattle.promises.proofs.Packets.{sesm, encode_fits}
 use Rattle.packet.proofs.Valids.{sequenced_valid, response_valid}
@@ -312,7 +312,7 @@ module _ (F aq nu : ℕ) (k : Meaning) (wide : packet_limit ≤ F) (begun : 0 < 
       let nx : n ≡ next_number rd.l = omega (arith, rd.near) in
       let at : n - 1 ≡ i = omega arith in
       let r1 : slice_get k.messages i ≡ Some m = subst (λ z. slice_get k.messages z ≡ Some m) at rm in
-      let pr : IsPrefix (rd.l.messages ++ (m ∷ [])) k.messages = subst (λ z. IsPrefix (rd.l.messages ++ (m ∷ [])) z) (sym rd.front.1) (begins_next rd.l.messages rd.front.0 m (subst (λ z. slice_get z i ≡ Some m) rd.front.1 r1)) in
+      let pr : IsPrefix (rd.l.messages ++ (m ∷ [])) k.messages = subst (λ z. IsPrefix (rd.l.messages ++ (m ∷ [])) z) (sym rd.front.1) (IsPrefix-next rd.l.messages rd.front.0 m (subst (λ z. slice_get z i ≡ Some m) rd.front.1 r1)) in
       let tk : taken rd.l.overhead (drop i k.messages) ≡ (length m + rd.l.overhead) + taken rd.l.overhead (drop (i + 1) k.messages) =
       sum_by-drop_more (λ (x : Message). length x + rd.l.overhead) k.messages i [] (omega arith)
       ∙ ap (λ z. (length (get_or k.messages z []) + rd.l.overhead) + taken rd.l.overhead (drop (i + 1) k.messages)) (sym at) in
@@ -491,7 +491,7 @@ catches_up b n s t how i tr ul dl ab rs =
     let some : 0 < nu = asked_some (view c) ask in
     let front : IsPrefix l.messages k.messages = cond_both (eqb s.held.session x) s.held (begun s.held x) (λ (z : Meaning). IsPrefix z.messages k.messages)
     (λ q. subst (λ z. IsPrefix s.held.messages z) (ap b.lists (eqb-true s.held.session x q) ∙ i.kept) i.held) (λ q. (k.messages, refl)) in
-    let lf = begins_length l.messages k.messages front in
+    let lf = IsPrefix-length l.messages k.messages front in
     let on : HubOn (its_login (view c)) c c = record { phase = refl; stream = sym (append-nil (encode (its_login (view c)))); short = sesm.some (its_login (view c)); limit = ul.sound.some; rows = refl; running = refl; held = refl; seat = refl; down = refl } in
     let of : Off F c = record { frame = refl; dry = refl; room = refl; full = refl; limit = dl.sound.some } in
     let few : h ≤ size_limit = omega (arith, i.few, i.places) in
@@ -504,4 +504,4 @@ catches_up b n s t how i tr ul dl ab rs =
     let rd : Ready F aq nu k nu fs.mid = record { q = nu; d = owes nu h; l = l; is = fr.1 ∙ ap (λ z. core_of (Serving nu z (owes nu h)) Live aq nu k l) fq; off = fr.0; session = in_session_is s.held x; front = front; near = near; some = some; room = subst (λ z. taken z (drop (count l) k.messages) ≤ room l) (sym ro.0) ab.room; places = omega (arith, ab.places, ro.1) } in
     let en = ready_rounds F aq nu k wide i.begun i.short few nu fs.rest (omega arith) rd in
     let hl : t.held ≡ en.l = ap (λ (z : Core). z.held) en.is in
-    record { session = ap (λ (z : Meaning). z.session) hl ∙ en.session; messages = ap (λ (z : Meaning). z.messages) hl ∙ begins_all en.l.messages k.messages en.front (omega (arith, en.near)) }
+    record { session = ap (λ (z : Meaning). z.session) hl ∙ en.session; messages = ap (λ (z : Meaning). z.messages) hl ∙ IsPrefix-all en.l.messages k.messages en.front (omega (arith, en.near)) }

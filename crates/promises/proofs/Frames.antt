@@ -17,9 +17,9 @@ pub record Family : Type 1 where
   -- how many bytes a frame lacks
   pub lack : List ℕ → ℕ
   pub back : (v : Value) → Valid v → decode (encode v) ≡ whole v
-  pub beginnings : (v : Value) (k : ℕ) → Valid v → k < length (encode v) → decode (take k (encode v)) ≡ part
+  pub prefixes : (v : Value) (k : ℕ) → Valid v → k < length (encode v) → decode (take k (encode v)) ≡ part
   pub some : (v : Value) → 0 < length (encode v)
-  -- a frame that is a proper beginning of a packet lacks something, and not more than the packet has left
+  -- a frame that is a proper prefix of a packet lacks something, and not more than the packet has left
   pub lacks : (v : Value) (k : ℕ) → Valid v → k < length (encode v) → (0 < lack (take k (encode v))) × (k + lack (take k (encode v)) ≤ length (encode v))
 
 module _ (F : Family) where
@@ -58,7 +58,7 @@ module _ (F : Family) where
       let h = part_lacks p f (got ++ w) r va.0 e sh in
       let lg : length g ≡ length f + length got = length-append f got in
       ⊎_elim
-      (λ a. not_yet (ap F.decode (front_of g w (F.encode p) r q (omega arith)) ∙ F.beginnings p (length g) va.0 a) a q)
+      (λ a. not_yet (ap F.decode (front_of g w (F.encode p) r q (omega arith)) ∙ F.prefixes p (length g) va.0 a) a q)
       (λ a.
       let same = same_front g w (F.encode p) r q (omega arith) in
       come p ps refl same.0 (ap F.decode same.0 ∙ F.back p va.0) same.1)

@@ -1,43 +1,43 @@
--- Lists that begin with others.
+-- Lists that are prefixes of others.
 use Rattle.std.proofs.Common.{◌≡◌, ℕ, zero, suc, ◌≤◌, List, [], ◌∷◌, ◌++◌, length, get_or, Some, sym, refl, ap, ◌∙◌, arith, length-append}
 use Rattle.std.specs.List.{slice_get}
 use Rattle.std.proofs.lemmas.List.{append-nil, append_assoc, nil_from_length}
 use Rattle.promises.specs.Book.{Message}
 use Rattle.promises.specs.Runs.{IsPrefix}
 
-pub begins_refl : (xs : List Message) → IsPrefix xs xs
-begins_refl xs = ([], sym (append-nil xs))
+pub IsPrefix-refl : (xs : List Message) → IsPrefix xs xs
+IsPrefix-refl xs = ([], sym (append-nil xs))
 
-pub begins_push : (xs : List Message) (x : Message) → IsPrefix xs (xs ++ (x ∷ []))
-begins_push xs x = (x ∷ [], refl)
+pub IsPrefix-push : (xs : List Message) (x : Message) → IsPrefix xs (xs ++ (x ∷ []))
+IsPrefix-push xs x = (x ∷ [], refl)
 
-pub begins_trans : (xs ys zs : List Message) → IsPrefix xs ys → IsPrefix ys zs → IsPrefix xs zs
-begins_trans xs ys zs (a, p) (b, q) = (a ++ b, q ∙ ap (λ l. l ++ b) p ∙ append_assoc xs a b)
+pub IsPrefix-trans : (xs ys zs : List Message) → IsPrefix xs ys → IsPrefix ys zs → IsPrefix xs zs
+IsPrefix-trans xs ys zs (a, p) (b, q) = (a ++ b, q ∙ ap (λ l. l ++ b) p ∙ append_assoc xs a b)
 
-pub begins_length : (xs ys : List Message) → IsPrefix xs ys → length xs ≤ length ys
-begins_length xs ys (r, e) = omega (arith, ap length e, length-append xs r)
+pub IsPrefix-length : (xs ys : List Message) → IsPrefix xs ys → length xs ≤ length ys
+IsPrefix-length xs ys (r, e) = omega (arith, ap length e, length-append xs r)
 
--- a beginning that is as long is the whole
-pub begins_all : (xs ys : List Message) → IsPrefix xs ys → length ys ≤ length xs → xs ≡ ys
-begins_all xs ys (r, e) l =
+-- a prefix that is as long is the whole
+pub IsPrefix-all : (xs ys : List Message) → IsPrefix xs ys → length ys ≤ length xs → xs ≡ ys
+IsPrefix-all xs ys (r, e) l =
     let n : length r ≡ 0 = omega (arith, ap length e, length-append xs r) in
     sym (e ∙ ap (λ z. xs ++ z) (nil_from_length r n) ∙ append-nil xs)
 
--- what stands right behind a beginning
-pub begins_next : (xs rest : List Message) (v : Message) → slice_get (xs ++ rest) (length xs) ≡ Some v → IsPrefix (xs ++ (v ∷ [])) (xs ++ rest)
-begins_next [] [] v e = (cc)
-begins_next [] (y ∷ ys) v e = (ys, cc)
-begins_next (x ∷ xs) rest v e = let ih = begins_next xs rest v e in (ih.0, ap (λ l. x ∷ l) ih.1)
+-- what stands right behind a prefix
+pub IsPrefix-next : (xs rest : List Message) (v : Message) → slice_get (xs ++ rest) (length xs) ≡ Some v → IsPrefix (xs ++ (v ∷ [])) (xs ++ rest)
+IsPrefix-next [] [] v e = (cc)
+IsPrefix-next [] (y ∷ ys) v e = (ys, cc)
+IsPrefix-next (x ∷ xs) rest v e = let ih = IsPrefix-next xs rest v e in (ih.0, ap (λ l. x ∷ l) ih.1)
 
--- of two beginnings of one list the shorter begins the longer
-pub begins_shorter : (xs ys zs : List Message) → IsPrefix xs zs → IsPrefix ys zs → length xs ≤ length ys → IsPrefix xs ys
-begins_shorter [] ys zs p q l = (ys, refl)
-begins_shorter (x ∷ xs) [] zs p q l = absurd (omega arith)
-begins_shorter (x ∷ xs) (y ∷ ys) zs p q l =
+-- of two prefixes of one list the shorter is a prefix of the longer
+pub IsPrefix-shorter : (xs ys zs : List Message) → IsPrefix xs zs → IsPrefix ys zs → length xs ≤ length ys → IsPrefix xs ys
+IsPrefix-shorter [] ys zs p q l = (ys, refl)
+IsPrefix-shorter (x ∷ xs) [] zs p q l = absurd (omega arith)
+IsPrefix-shorter (x ∷ xs) (y ∷ ys) zs p q l =
     let e : x ∷ (xs ++ p.0) ≡ y ∷ (ys ++ q.0) = sym p.1 ∙ q.1 in
     let a : y ≡ x = cc in
     let t : xs ++ p.0 ≡ ys ++ q.0 = cc in
-    let ih = begins_shorter xs ys (xs ++ p.0) (p.0, refl) (q.0, t) (omega arith) in
+    let ih = IsPrefix-shorter xs ys (xs ++ p.0) (p.0, refl) (q.0, t) (omega arith) in
     (ih.0, ap (λ z. z ∷ ys) a ∙ ap (λ z. x ∷ z) ih.1)
 
 pub nth_append : (xs ys : List Message) (i : ℕ) (v : Message) → slice_get xs i ≡ Some v → slice_get (xs ++ ys) i ≡ Some v

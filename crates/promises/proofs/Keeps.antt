@@ -31,12 +31,11 @@ use Rattle.rules.specs.Hub.{hub_gone, first_number, owes, Sending, hub_sends}
 use Rattle.rules.specs.Seat.{next_number, is_apart, seat_letters, seat_sends}
 use Rattle.rules.specs.Calls.{Done, counted, hub_timed, tick, is_serving}
 use Rattle.rules.specs.declared.answers.Answer.{Answer}
-use Rattle.rules.specs.declared.answers.Answer.TheVariants as Answer
 use Rattle.rules.specs.Rounds.{HubReceives, SeatReceives, Drains, ends, more, Rounds, Call, Connect, Cut, Publish, Finish, Roll, Tell, Say, Leave, HubReceive, SeatReceive, HubSend, SeatSend, Tick, Round, Effect, Step, short_buffer, connects, cuts, publishes, finishes, rolls, tells, says, leaves, hub_receives, seat_receives, hub_sends_one, seat_sends_one, ticks, rounds, refusal}
 use Rattle.promises.specs.Book.{Message, Book, opened, added, turned, noted}
 use Rattle.promises.specs.Runs.{IsPrefix, World, Run, begins, goes_on, SetUp, History}
 use Rattle.promises.specs.Promises.{NeverWrong, NeverShorter}
-use Rattle.promises.proofs.Fronts.{begins_push, begins_next}
+use Rattle.promises.proofs.Fronts.{IsPrefix-push, IsPrefix-next}
 use Rattle.promises.proofs.Frames.{short_nil}
 use Rattle.promises.proofs.Packets.{sesm}
 use Rattle.packet.proofs.Valids.{sequenced_valid, unsequenced_valid, response_valid}
@@ -188,7 +187,7 @@ next_begins : (b : Book) (l : Meaning) (x n : ℕ) (m : Message) → l.session �
 next_begins b l x n m e nu rd pre =
     let at : n - 1 ≡ length l.messages = omega arith in
     let r0 : slice_get (b.lists l.session) (length l.messages) ≡ Some m = subst (λ j. slice_get (b.lists l.session) j ≡ Some m) at (subst (λ j. slice_get (b.lists j) (n - 1) ≡ Some m) (sym e) rd) in
-    subst (λ z. IsPrefix (l.messages ++ (m ∷ [])) z) (sym pre.1) (begins_next l.messages pre.0 m (subst (λ z. slice_get z (length l.messages) ≡ Some m) pre.1 r0))
+    subst (λ z. IsPrefix (l.messages ++ (m ∷ [])) z) (sym pre.1) (IsPrefix-next l.messages pre.0 m (subst (λ z. slice_get z (length l.messages) ≡ Some m) pre.1 r0))
 
 -- a seat that has left hears nothing more, whatever is on the line
 gone_from : (b : Book) (s t : Pair) → (t.seat.phase ≡ Apart) × (t.held ≡ s.held) × (t.hub ≡ s.hub) × (t.running ≡ s.running) → Sound b s → Kept b s t
@@ -214,7 +213,7 @@ seat_acted_keep b s _ _ _ ph (seat_keeps_lem n m nu ok) i y =
     let e : s.held.session ≡ y.rest.session = y.rest.live ph in
     let pre = next_begins b s.held y.rest.session n m e nu y.honest.1 i.held in
     let j = relog b _ _ _ _ _ _ (Log.added s.held m) y.sent pre y.rest e i in
-    record { sound = subst (λ p. Inv b s.hub.phase p s.seat.frame s.running.log (Log.added s.held m) s.down.waiting) (sym ph) j; grows = inl (refl, begins_push s.held.messages m) }
+    record { sound = subst (λ p. Inv b s.hub.phase p s.seat.frame s.running.log (Log.added s.held m) s.down.waiting) (sym ph) j; grows = inl (refl, IsPrefix-push s.held.messages m) }
 seat_acted_keep b s _ _ _ ph (seat_passes n m nu) i y = same_log b s s refl i
 seat_acted_keep b s _ _ _ ph (seat_skips_lem n e m fe) i y = same_log b s s refl i
 seat_acted_keep b s _ _ _ ph (seat_completes fe) i y = same_log b s _ refl (subst (λ p. Inv b s.hub.phase p s.seat.frame s.running.log s.held s.down.waiting) ph i)
@@ -349,8 +348,8 @@ set_up_sound s u =
       places = u.hub_log_sound.places_within;
       short = u.hub_log_sound.short;
       held = ⊎_elim (λ z. subst (λ ms. IsPrefix ms ((opened k).lists s.held.session)) (sym z.1) ((opened k).lists s.held.session, refl))
-          (λ z. subst (λ x. IsPrefix s.held.messages ((opened k).lists x)) (sym z.0) (subst (λ ms. IsPrefix s.held.messages ms) (sym (opened_at k)) z.1)) u.beginning;
-      older = ⊎_elim (λ z. omega (arith, z.0)) (λ z. omega (arith, z.0)) u.beginning;
+          (λ z. subst (λ x. IsPrefix s.held.messages ((opened k).lists x)) (sym z.0) (subst (λ ms. IsPrefix s.held.messages ms) (sym (opened_at k)) z.1)) u.follows;
+      older = ⊎_elim (λ z. omega (arith, z.0)) (λ z. omega (arith, z.0)) u.follows;
       rejected = subst Rejected (sym u.shut) tt;
       flight = away u.apart;
     }

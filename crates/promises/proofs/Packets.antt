@@ -40,7 +40,7 @@ sesm = record {
   whole = λ v. Ok (whole v);
   lack = lack;
   back = λ v va. ap decode (sym (append-nil (encode v))) ∙ reads_back v [] va;
-  beginnings = beginnings_are_parts;
+  prefixes = beginnings_are_parts;
   some = λ v. omega (arith, length_encode v);
   lacks = lacks;
 }

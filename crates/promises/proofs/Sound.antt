@@ -21,7 +21,7 @@ use Rattle.rules.specs.State.{Pair}
 use Rattle.rules.specs.Calls.{busy, last_session}
 use Rattle.promises.specs.Book.{Message, Book, added, turned}
 use Rattle.promises.specs.Runs.{IsPrefix}
-use Rattle.promises.proofs.Fronts.{begins_refl, begins_push, begins_trans, nth_append, get_d_push}
+use Rattle.promises.proofs.Fronts.{IsPrefix-refl, IsPrefix-push, IsPrefix-trans, nth_append, get_d_push}
 use Rattle.promises.proofs.Frames.{Short, short_push, stream_push}
 use Rattle.promises.proofs.Packets.{sesm}
 
@@ -119,10 +119,10 @@ abbrev pub Grows : Meaning → Meaning → Type 0
 Grows l n = ((n.session ≡ l.session) × IsPrefix l.messages n.messages) ⊎ (l.session < n.session)
 
 pub grows_refl : (l : Meaning) → Grows l l
-grows_refl l = inl (refl, begins_refl l.messages)
+grows_refl l = inl (refl, IsPrefix-refl l.messages)
 
 pub grows_trans : (l m n : Meaning) → Grows l m → Grows m n → Grows l n
-grows_trans l m n (inl (a, p)) (inl (b, q)) = inl (b ∙ a, begins_trans l.messages m.messages n.messages p q)
+grows_trans l m n (inl (a, p)) (inl (b, q)) = inl (b ∙ a, IsPrefix-trans l.messages m.messages n.messages p q)
 grows_trans l m n (inl (a, p)) (inr b) = inr (omega arith)
 grows_trans l m n (inr a) (inl (b, q)) = inr (omega arith)
 grows_trans l m n (inr a) (inr b) = inr (omega arith)
@@ -207,7 +207,7 @@ honest_more xs ys x seat_heartbeat pre h = tt
 honest_more xs ys x (test t) pre h = tt
 
 pub list_grows : (b : Book) (m : Message) (x : ℕ) → IsPrefix (b.lists x) ((added b m).lists x)
-list_grows b m x = cond_both (eqb x b.running) (b.lists x ++ (m ∷ [])) (b.lists x) (λ z. IsPrefix (b.lists x) z) (λ t. begins_push (b.lists x) m) (λ t. begins_refl (b.lists x))
+list_grows b m x = cond_both (eqb x b.running) (b.lists x ++ (m ∷ [])) (b.lists x) (λ z. IsPrefix (b.lists x) z) (λ t. IsPrefix-push (b.lists x) m) (λ t. IsPrefix-refl (b.lists x))
 
 pub publishes : (b : Book) (h : HubPhase) (p : SeatPhase) (f : List ℕ) (k l : Meaning) (w : List ℕ) (m : Message) → takes k (length m) ≡ Ok tt → Inv b h p f k l w → Inv (added b m) h p f (Log.added k m) l w
 publishes b h p f k l w m ok i =
@@ -222,7 +222,7 @@ publishes b h p f k l w m ok i =
       few = omega (arith, length_push k.messages m, fit.2);
       places = i.places;
       short = get_d_push (λ x. length x ≤ message_limit) k.messages m i.short fit.0;
-      held = begins_trans l.messages (b.lists l.session) ((added b m).lists l.session) i.held (list_grows b m l.session);
+      held = IsPrefix-trans l.messages (b.lists l.session) ((added b m).lists l.session) i.held (list_grows b m l.session);
       older = i.older;
       rejected = i.rejected;
       flight = go i.flight;

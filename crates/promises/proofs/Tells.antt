@@ -8,7 +8,7 @@ use Rattle.wire.specs.declared.refusals.Refusal.{Refusal}
 use Rattle.wire.specs.declared.refusals.Refusal.TheVariants.{ShortBuffer}
 use Rattle.wire.specs.declared.letters.Letter.{Letter}
 use Rattle.wire.specs.declared.statuses.Status.{Status}
-use Rattle.wire.specs.declared.statuses.Status.TheVariants.{Accepted, UnknownUser, SessionUnavailable, InvalidNumber, WrongVersion, WrongProtocol, AlreadyLoggedIn}
+use Rattle.wire.specs.declared.statuses.Status.TheVariants.{Accepted}
 use Rattle.wire.specs.declared.goodbyes.GoodByeReason.{GoodByeReason}
 use Rattle.wire.specs.declared.goodbyes.GoodByeReason.TheVariants as G
 use Rattle.wire.specs.declared.logouts.LogoutReason.TheVariants as X
@@ -35,12 +35,11 @@ use Rattle.rules.specs.Hub.{hub_gone, hub_letters, first_number, owes, Sending, 
 use Rattle.rules.specs.Seat.{seat_gone, in_session, next_number, is_apart, seat_letters, seat_sends}
 use Rattle.rules.specs.Calls.{Done, cut, counted, hub_timed, tick, busy, is_serving, is_live, connected, fetch_end}
 use Rattle.rules.specs.declared.answers.Answer.{Answer}
-use Rattle.rules.specs.declared.answers.Answer.TheVariants as Answer
 use Rattle.rules.specs.Rounds.{HubReceives, SeatReceives, Drains, ends, more, Rounds, Call, Connect, Cut, Publish, Finish, Roll, Tell, Say, Leave, HubReceive, SeatReceive, HubSend, SeatSend, Tick, Round, Effect, Step, short_buffer, connects, cuts, publishes, finishes, rolls, tells, says, leaves, hub_receives, seat_receives, hub_sends_one, seat_sends_one, ticks, rounds, refusal}
 use Rattle.promises.specs.Book.{Message, Book, opened, added, turned, noted}
 use Rattle.promises.specs.Runs.{IsPrefix, Note, accepts, written, renoted, World, Run, begins, goes_on, SetUp, History}
 use Rattle.promises.specs.Promises.{Holds, InStepIsTrue}
-use Rattle.promises.proofs.Fronts.{begins_push, begins_trans, begins_length, begins_shorter}
+use Rattle.promises.proofs.Fronts.{IsPrefix-push, IsPrefix-trans, IsPrefix-length, IsPrefix-shorter}
 use Rattle.promises.proofs.Frames.{Short, short_nil}
 use Rattle.promises.proofs.Packets.{sesm}
 use Rattle.packet.proofs.Valids.{unsequenced_valid, response_valid}
@@ -53,12 +52,7 @@ use Rattle.promises.proofs.Truth.{View, view, hubbed, its_login, Leads, goal, St
 
 not_accepts : (x : Status) → (x ≡ Accepted → ⊥) → accepts x ≡ false
 not_accepts Accepted ne = absurd (ne refl)
-not_accepts UnknownUser ne = refl
-not_accepts SessionUnavailable ne = refl
-not_accepts InvalidNumber ne = refl
-not_accepts WrongVersion ne = refl
-not_accepts WrongProtocol ne = refl
-not_accepts AlreadyLoggedIn ne = refl
+not_accepts status ne = refl
 
 -- all is sent where the next number is not held
 past_all : (k : Meaning) (n : ℕ) → 0 < n → has k n ≡ false → count k < n
@@ -221,7 +215,7 @@ settle : (o : Option Note) (w : View) (v : Value) (cm : Came o w v) (p : SeatPha
 settle o w v cm p st l a b c = record { session = cm.session; packets = cm.rest; stream = cm.stream; short = cm.short; valid = cm.valid; no_fetch = cm.no_fetch; notes = cm.notes; asks = a; live = b; stage = cm.stages (seated w p st l) refl; leads = c }
 
 holds_from : (o : Option Note) (b : Book) (l : Meaning) → IsPrefix l.messages (b.lists l.session) → ((k : Note) → o ≡ Some k → IsPrefix k.messages (b.lists k.session)) → (k : Note) → o ≡ Some k → k.session ≡ l.session → length k.messages ≤ count l → Holds o l
-holds_from o b l pre nt k e se le = record { note = k; is = e; session = se; all = begins_shorter k.messages l.messages (b.lists l.session) (subst (λ x. IsPrefix k.messages (b.lists x)) se (nt k e)) pre le }
+holds_from o b l pre nt k e se le = record { note = k; is = e; session = se; all = IsPrefix-shorter k.messages l.messages (b.lists l.session) (subst (λ x. IsPrefix k.messages (b.lists x)) se (nt k e)) pre le }
 
 -- the seat is apart
 apart_tru : (o : Option Note) (b : Book) (s t : Pair) → t.seat.phase ≡ Apart → t.seat.in_step ≡ s.seat.in_step → t.held ≡ s.held → t.account ≡ s.account → Truth o b s → Truth o b t
@@ -306,7 +300,7 @@ module _ (o : Option Note) (b : Book) (s : Pair) (d : LineView) (x : ℕ) (xs : 
       lp = length_push s.held.messages m
 
       tru : s.seat.in_step ≡ true → Holds o (Log.added s.held m)
-      tru q = let h = tr.truth q in record { note = h.note; is = h.is; session = h.session; all = begins_trans h.note.messages s.held.messages (Log.added s.held m).messages h.all (begins_push s.held.messages m) }
+      tru q = let h = tr.truth q in record { note = h.note; is = h.is; session = h.session; all = IsPrefix-trans h.note.messages s.held.messages (Log.added s.held m).messages h.all (IsPrefix-push s.held.messages m) }
 
       go : Way o (view s) → Tru o b (seated (view heard) s.seat.phase s.seat.in_step (Log.added s.held m))
       go (gone e) = absurd (not_apart s.seat.phase na e)
@@ -457,7 +451,7 @@ new_tru o b s how w tr = record { notes = λ k e. (cc); truth = λ e. (cc); user
 
 asked_join : (b : Book) (s : Pair) → Sound b s → Asked (view (connected Join s))
 asked_join b s i = ⊎_elim
-    (λ z. inl (z, let e : b.lists s.held.session ≡ [] = ap b.lists z ∙ i.none in omega (arith, begins_length s.held.messages (b.lists s.held.session) i.held, ap length e)))
+    (λ z. inl (z, let e : b.lists s.held.session ≡ [] = ap b.lists z ∙ i.none in omega (arith, IsPrefix-length s.held.messages (b.lists s.held.session) i.held, ap length e)))
     (λ z. inr (refl, ne_pos s.held.session z, refl))
     (cases_eq s.held.session 0)
   where
@@ -500,7 +494,7 @@ rolled_stage o v k (Serving q n d) bu ps x st = (cc)
 rolled_stage o v k (Filling n l) bu ps x st = st
 
 published_tru : (o : Option Note) (b : Book) (s : Pair) (m : Message) → Truth o b s → Tru o (added b m) (rekept (view s) (Log.added s.running.log m))
-published_tru o b s m tr = record { notes = λ k q. begins_trans k.messages (b.lists k.session) ((added b m).lists k.session) (tr.notes k q) (list_grows b m k.session); truth = tr.truth; user = tr.user; computer = tr.computer; protocol = tr.protocol; few = tr.few; places = tr.places; way = rekept_way o (view s) (Log.added s.running.log m) (same_session_stage o (view s) (Log.added s.running.log m) refl s.hub.phase) tr.way }
+published_tru o b s m tr = record { notes = λ k q. IsPrefix-trans k.messages (b.lists k.session) ((added b m).lists k.session) (tr.notes k q) (list_grows b m k.session); truth = tr.truth; user = tr.user; computer = tr.computer; protocol = tr.protocol; few = tr.few; places = tr.places; way = rekept_way o (view s) (Log.added s.running.log m) (same_session_stage o (view s) (Log.added s.running.log m) refl s.hub.phase) tr.way }
 
 rolled_tru : (o : Option Note) (b : Book) (s : Pair) → busy s.hub.phase ≡ false → Truth o b s → Tru o (turned b) (rekept (view s) (begun s.running.log (s.running.log.session + 1)))
 rolled_tru o b s e tr = record { notes = tr.notes; truth = tr.truth; user = tr.user; computer = tr.computer; protocol = tr.protocol; few = tr.few; places = tr.places; way = rekept_way o (view s) (begun s.running.log (s.running.log.session + 1)) (rolled_stage o (view s) (begun s.running.log (s.running.log.session + 1)) s.hub.phase e) tr.way }

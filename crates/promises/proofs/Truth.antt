@@ -19,7 +19,7 @@ use Rattle.rules.specs.Seat.{in_session, next_number}
 use Rattle.promises.specs.Book.{Book}
 use Rattle.promises.specs.Runs.{IsPrefix, Note, as_of, accepts, tells_all, or_else, written}
 use Rattle.promises.specs.Promises.{Holds}
-use Rattle.promises.proofs.Fronts.{begins_refl, begins_length}
+use Rattle.promises.proofs.Fronts.{IsPrefix-refl, IsPrefix-length}
 use Rattle.promises.proofs.Frames.{Short, short_push, stream_push}
 use Rattle.promises.proofs.Packets.{sesm}
 
@@ -173,7 +173,7 @@ after w h v = hubbed w h w.hub_frame_lem w.up (w.down ++ encode v)
 
 pub tru_writes : (o : Option Note) (b : Book) (w : View) (h : HubPhase) (v : Value) → ((y : Joined o w) → Joined (written w.number b (Some v) o) (after w h v)) → Tru o b w → Tru (written w.number b (Some v) o) b (after w h v)
 tru_writes o b w h v k i = record {
-  notes = λ j e. ⊎_elim (λ z. i.notes j z) (λ z. subst (λ (x : Note). IsPrefix x.messages (b.lists x.session)) (sym z) (begins_refl (b.lists b.running))) (written_new o w.number b v j e);
+  notes = λ j e. ⊎_elim (λ z. i.notes j z) (λ z. subst (λ (x : Note). IsPrefix x.messages (b.lists x.session)) (sym z) (IsPrefix-refl (b.lists b.running))) (written_new o w.number b v j e);
   truth = λ e. let t = i.truth e in record { note = t.note; is = written_keeps o w.number b v t.note t.is; session = t.session; all = t.all };
   user = i.user;
   computer = i.computer;
@@ -262,7 +262,7 @@ joined_complete o b w q n ph lt ru ke nt y =
     (λ k e. ⊎_elim (λ z. y.notes k z) (λ z. ap (λ (m : Note). m.session) z ∙ ru ∙ st.2) (or_new o (as_of b) k e))
     (λ c r. (r.0, or_keeps o (as_of b) r.0 r.1, r.2))
     (st.0, st.1, st.2)
-    (λ c l. (have o (λ k e. begins_length k.messages (b.lists k.session) (nt k e)) (λ k e. ap (λ z. length (b.lists z)) (y.notes k e ∙ sym st.2) ∙ ap length ke) c (omega arith) lr, omega arith))
+    (λ c l. (have o (λ k e. IsPrefix-length k.messages (b.lists k.session) (nt k e)) (λ k e. ap (λ z. length (b.lists z)) (y.notes k e ∙ sym st.2) ∙ ap length ke) c (omega arith) lr, omega arith))
   where
     have : (o : Option Note) → ((k : Note) → o ≡ Some k → length k.messages ≤ length (b.lists k.session)) → ((k : Note) → o ≡ Some k → length (b.lists k.session) ≡ count w.kept) → (c : ℕ) → count w.kept ≤ c → length (b.lists b.running) ≡ count w.kept → Reached (or_else o (as_of b)) c
     have None f g c l r = (as_of b, refl, omega arith)

@@ -2,20 +2,20 @@
 -- for any rules, so that wrong ones can be tried too.
 use Rattle.std.specs.Prelude.{◌≡◌, ℕ, suc, ◌+◌, ◌<◌, Bool, true, false, cond, ◌&&◌, ◌⊎◌, List, [], ◌++◌, length, Some, None, Ok, Option, ◌==◌}
 use Rattle.wire.specs.declared.statuses.Status.{Status}
-use Rattle.wire.specs.declared.statuses.Status.TheVariants.{Accepted, UnknownUser, SessionUnavailable, InvalidNumber, WrongVersion, WrongProtocol, AlreadyLoggedIn}
-use Rattle.packet.specs.Values.{Value, login_request, login_response, sequenced, unsequenced, synchronization_complete, retransmission_request, logout_request, good_bye, end_of_session, hub_heartbeat, seat_heartbeat, test}
+use Rattle.wire.specs.declared.statuses.Status.TheVariants.{Accepted}
+use Rattle.packet.specs.Values.{Value, login_response, synchronization_complete}
 use Rattle.rules.specs.State as Line
 use Rattle.message_log.specs.Meaning as Log
+use Rattle.message_log.specs.Meaning.{Meaning}
 use Rattle.rules.specs.declared.phases.HubPhase.TheVariants.{Shut}
 use Rattle.rules.specs.declared.phases.SeatPhase.TheVariants.{Apart}
 use Rattle.rules.specs.declared.answers.Report.{Report}
 use Rattle.rules.specs.State.{Pair}
 use Rattle.rules.specs.declared.answers.Answer.{Answer}
-use Rattle.rules.specs.declared.answers.Answer.TheVariants as Answer
-use Rattle.rules.specs.Rounds.{Call, Connect, Cut, Publish, Finish, Roll, Tell, Say, Leave, HubReceive, SeatReceive, HubSend, SeatSend, Tick, Round, Effect}
+use Rattle.rules.specs.Rounds.{Call, Connect, HubSend, Round, Effect}
 use Rattle.promises.specs.Book.{Message, Book, opened, is_granted, noted}
 
--- one list begins another
+-- one list is a prefix of another
 abbrev pub IsPrefix : List Message → List Message → Type 0
 IsPrefix xs ys = (rest : List Message) × (ys ≡ xs ++ rest)
 
@@ -30,28 +30,14 @@ as_of b = record { session = b.running; messages = b.lists b.running }
 
 abbrev pub accepts : Status → Bool
 accepts Accepted = true
-accepts UnknownUser = false
-accepts SessionUnavailable = false
-accepts InvalidNumber = false
-accepts WrongVersion = false
-accepts WrongProtocol = false
-accepts AlreadyLoggedIn = false
+accepts status = false
 
 -- that packet, for a seat which asked for number q: an accepted response whose highest + 1 is q, or a
 -- synchronization complete
 abbrev pub tells_all : ℕ → Value → Bool
-tells_all q (login_request v u c p s n) = false
 tells_all q (login_response status session highest) = accepts status && highest + 1 == q
-tells_all q (sequenced n m) = false
-tells_all q (unsequenced m) = false
 tells_all q synchronization_complete = true
-tells_all q (retransmission_request a e) = false
-tells_all q (logout_request r t) = false
-tells_all q (good_bye r t) = false
-tells_all q end_of_session = false
-tells_all q hub_heartbeat = false
-tells_all q seat_heartbeat = false
-tells_all q (test t) = false
+tells_all q v = false
 
 -- the first such packet of a connection counts
 abbrev pub or_else : Option Note → Note → Option Note
@@ -65,19 +51,9 @@ written q b (Some v) o = cond (tells_all q v) (or_else o (as_of b)) o
 -- a granted connect begins a connection; what a hub send or a round wrote may set the note
 abbrev pub renoted : Call → Answer → Option Value → ℕ → Book → Option Note → Option Note
 renoted (Connect how) a w q b o = cond (is_granted a) None o
-renoted Cut a w q b o = o
-renoted (Publish m) a w q b o = o
-renoted Finish a w q b o = o
-renoted Roll a w q b o = o
-renoted (Tell m) a w q b o = o
-renoted (Say m) a w q b o = o
-renoted Leave a w q b o = o
-renoted HubReceive a w q b o = o
-renoted SeatReceive a w q b o = o
 renoted HubSend a w q b o = written q b w o
-renoted SeatSend a w q b o = o
-renoted Tick a w q b o = o
 renoted Round a w q b o = written q b w o
+renoted call a w q b o = o
 
 -- A pair with the book and the note that go along with it, and what a run of calls makes of them.
 pub record World : Type 0 where
@@ -95,13 +71,21 @@ stepped w call d =
 
 pub data Run (Rules : Pair → Call → Effect → Type 0) (start : World) : World → Type 0 where
   begins : Run Rules start start
-  goes_on : {w : World} → Run Rules start w → (call : Call) (d : Effect) → Rules w.pair call d → Run Rules start (stepped w call d)
+  goes_on : {w : World} → Run Rules start w → (call : Call) (d : Effect) → Rules w.pair call d →
+      Run Rules start (stepped w call d)
 
 -- so many granted rounds, one after the other
 pub data GrantedRounds (Rules : Pair → Call → Effect → Type 0) : ℕ → Pair → Pair → Type 0 where
   no_round : (s : Pair) → GrantedRounds Rules 0 s s
-  round : (n : ℕ) (s t : Pair) (d : Effect) (report : Report) → Rules s Round d → d.answer ≡ Answer.Round (Ok report) → GrantedRounds Rules n d.after t →
+  round : (n : ℕ) (s t : Pair) (d : Effect) (report : Report) →
+      Rules s Round d → d.answer ≡ Answer.Round (Ok report) → GrantedRounds Rules n d.after t →
       GrantedRounds Rules (suc n) s t
+
+-- the seat's log is empty without a session, or a prefix of the hub's under the same session
+abbrev pub Follows : Meaning → Meaning → Type 0
+Follows seat hub =
+    ((seat.session ≡ 0) × (seat.messages ≡ []))
+    ⊎ ((seat.session ≡ hub.session) × IsPrefix seat.messages hub.messages)
 
 -- A pair that was just set up.
 pub record SetUp (s : Pair) : Type 0 where
@@ -111,8 +95,7 @@ pub record SetUp (s : Pair) : Type 0 where
   pub hub_log_sound : Log.Sound s.running.log
   pub begun : 0 < s.running.log.session
   pub seat_log_sound : Log.Sound s.held
-  -- the seat's log is empty without a session, or a beginning of the hub's under the same session
-  pub beginning : ((s.held.session ≡ 0) × (s.held.messages ≡ [])) ⊎ ((s.held.session ≡ s.running.log.session) × IsPrefix s.held.messages s.running.log.messages)
+  pub follows : Follows s.held s.running.log
   pub up_line : Line.Steady s.up
   pub down_line : Line.Steady s.down
   pub user : length s.account.user ≡ 5

@@ -11,7 +11,7 @@
 ghost use Rattle.rules.specs.Rounds.{Step};
 ghost use Rattle.promises.specs.Promises.{NeverWrong, NeverShorter, CatchesUp, CanCatchUp, InStepIsTrue, SetUpBegins};
 
-/// After every run the seat's log is a beginning of what was published in the session that it bears.
+/// After every run the seat's log is a prefix of what was published in the session that it bears.
 pub fn the_seat_is_never_wrong()
     ensures { NeverWrong Step }
 {}

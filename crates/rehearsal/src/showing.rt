@@ -78,7 +78,7 @@ fn show_received<W: Write>(out: &mut W, received: Received) -> io::Result<()> {
             let letter = letter_of(letter);
             write!(out, "acted {letter}")
         }
-        Received::Message { place, length } => write!(out, "message {place} {length}"),
+        Received::Message { offset, length } => write!(out, "message {offset} {length}"),
     }
 }
 

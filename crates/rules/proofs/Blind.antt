@@ -5,7 +5,7 @@ use Rattle.wire.specs.declared.refusals.Refusal.{Refusal}
 use Rattle.wire.specs.declared.refusals.Refusal.TheVariants.{BadPacket, LogFull}
 use Rattle.wire.specs.declared.letters.Letter.TheVariants as L
 use Rattle.wire.specs.declared.statuses.Status.{Status}
-use Rattle.wire.specs.declared.statuses.Status.TheVariants.{Accepted, UnknownUser, SessionUnavailable, InvalidNumber, WrongVersion, WrongProtocol, AlreadyLoggedIn}
+use Rattle.wire.specs.declared.statuses.Status.TheVariants.{Accepted}
 use Rattle.wire.specs.declared.goodbyes.GoodByeReason.{GoodByeReason}
 use Rattle.wire.specs.declared.goodbyes.GoodByeReason.TheVariants as G
 use Rattle.wire.specs.declared.logouts.LogoutReason.{LogoutReason}
@@ -72,12 +72,7 @@ admitted_blind (Some i) n s w = refl
 
 decided_blind : (t : Status) (a : Asked) (s : Pair) (w : LineView) → decided t a (with_up s w) ≡ with_up (decided t a s) w
 decided_blind Accepted a s w = admitted_blind _ a.number s w
-decided_blind UnknownUser a s w = refl
-decided_blind SessionUnavailable a s w = refl
-decided_blind InvalidNumber a s w = refl
-decided_blind WrongVersion a s w = refl
-decided_blind WrongProtocol a s w = refl
-decided_blind AlreadyLoggedIn a s w = refl
+decided_blind status a s w = refl
 
 hub_acts_blind : (p : HubPhase) (v : Value) → BlindUp (λ s. hub_acts p v s)
 hub_acts_blind p v =

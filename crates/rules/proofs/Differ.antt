@@ -10,7 +10,7 @@ use Rattle.rules.specs.Changes.{with_up, with_seat}
 use Rattle.rules.specs.Rounds.{hub_deaf, hub_hears_bytes, seat_hears_bytes, ends, more, Round, Effect, Step, rounds}
 use Rattle.rules.specs.Roomiest.{roomiest}
 use Rattle.rules.specs.Laws.{Lined, RoundsDiffer}
-use Rattle.rules.specs.Examples.{pair, log}
+use Rattle.rules.specs.Examples.{pair, log, seat_in}
 use Rattle.rules.proofs.Total.{total}
 
 -- A logout and a byte more wait for the hub on a line with no room; the seat owes a heartbeat. The hub takes the
@@ -19,7 +19,7 @@ abbrev tight : Pair
 tight =
     with_seat
     (with_up (pair (Serving 1 3 false) Live (log 7 [])) (record { waiting = 0x02 ∷ 0x00 ∷ 0x58 ∷ 0x20 ∷ 0x01 ∷ []; room = 0; full = packet_limit; limit = packet_limit }))
-    (record { phase = Live; session = 7; number = 1; fetch = None; requested = false; in_step = false; status = None; frame = []; unsent = 11; silent = 0 })
+    (record (seat_in Live) { unsent = 11 })
 
 tight_lined : Lined tight
 tight_lined =

@@ -3,11 +3,11 @@ use Rattle.std.proofs.Common.{refl}
 use Rattle.std.specs.List.{AllByRecursion as All}
 use Rattle.packet.specs.Values.{encode}
 use Rattle.packet.specs.Decoding.{decode}
-use Rattle.rules.specs.Examples.{stories, Told, waits, Waited, counts, Counted, asks, Asked, hub_hearings, HubHeard, seat_hearings, SeatHeard, ExamplesHold}
+use Rattle.rules.specs.Examples.{stories, IsSeen, waits, Waited, counts, Counted, asks, Asked, hub_hearings, HubHeard, seat_hearings, SeatHeard, ExamplesHold}
 
-told : All Told stories
+seen_lem : All IsSeen stories
 unfolding encode decode
-told = (refl, (refl, (refl, (refl, (refl, (refl, (refl, (refl, (refl, (refl, (refl, (refl, (refl, (refl, (refl, tt)))))))))))))))
+seen_lem = (refl, (refl, (refl, (refl, (refl, (refl, (refl, (refl, (refl, (refl, (refl, (refl, (refl, (refl, (refl, tt)))))))))))))))
 
 waited : All Waited waits
 unfolding encode
@@ -41,7 +41,7 @@ pub examples_hold : ExamplesHold
 unfolding encode
 examples_hold =
     record {
-      stories = told;
+      stories = seen_lem;
       waits = waited;
       counts = counted;
       asks = asked;

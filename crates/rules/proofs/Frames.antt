@@ -2,7 +2,7 @@
 use Rattle.std.proofs.Common.{◌≡◌, ℕ, ◌+◌, ◌-◌, ◌<◌, ◌≤◌, min, Bool, true, false, ltb, List, [], length, get_or, take, drop, Ok, Err, Result, sym, refl, ◌∙◌, ⊎_elim, arith, length-append, length-drop, length-take}
 use Rattle.std.proofs.lemmas.Bool.{cases_lt, cond-true, cond-false, lt-ltb, le-ltb, ltb-true}
 use Rattle.wire.specs.declared.faults.PacketFault.{PacketFault}
-use Rattle.wire.specs.declared.faults.PacketFault.TheVariants.{LengthZero, LengthOverLimit, UnknownLetter, OutOfPlace, WrongLength, WrongContent}
+use Rattle.wire.specs.declared.faults.PacketFault.TheVariants.{WrongLength, WrongContent}
 use Rattle.wire.specs.Limits.{length_limit, packet_limit}
 use Rattle.wire.proofs.Coded.{cut}
 use Rattle.packet.specs.Decoding.{Decoded, part, whole, head_number, counted, bodied, opened, wholly, decode}
@@ -31,19 +31,18 @@ parts_lack f e =
     let p = part_head f e h in (omega (arith, p.0), omega (arith, p.0, p.1)))
     (cases_lt (length f) 2)
 
+-- whatever letters an end takes, a part is one to it
+pub part_placed : (here : Bool) → placed here (Ok part) ≡ Ok part
+part_placed true = refl
+part_placed false = refl
+
 -- an end that is handed more of a part sees a part where a reader sees one
 pub placed_part : (here : Bool) (r : Result Decoded PacketFault) → placed here r ≡ Ok part → r ≡ Ok part
-placed_part here (Ok part) e = refl
-placed_part true (Ok (whole v)) e = (cc)
+placed_part true r e = e
 placed_part false (Ok (whole v)) e = (cc)
-placed_part here (Err LengthZero) e = (cc)
-placed_part here (Err LengthOverLimit) e = (cc)
-placed_part here (Err UnknownLetter) e = (cc)
-placed_part here (Err OutOfPlace) e = (cc)
-placed_part true (Err WrongLength) e = (cc)
 placed_part false (Err WrongLength) e = (cc)
-placed_part true (Err (WrongContent x)) e = (cc)
 placed_part false (Err (WrongContent x)) e = (cc)
+placed_part false r e = e
 
 -- a frame f in a buffer b, and later a frame g in c
 pub record Filled (f b g c : List ℕ) : Type 0 where

@@ -9,7 +9,7 @@ use Rattle.wire.specs.Limits.{message_limit}
 use Rattle.wire.specs.declared.letters.Letter.{Letter}
 use Rattle.wire.specs.declared.letters.Letter.TheVariants as L
 use Rattle.wire.specs.declared.statuses.Status.{Status}
-use Rattle.wire.specs.declared.statuses.Status.TheVariants.{Accepted, UnknownUser, SessionUnavailable, InvalidNumber, WrongVersion, WrongProtocol, AlreadyLoggedIn}
+use Rattle.wire.specs.declared.statuses.Status.TheVariants.{Accepted}
 use Rattle.wire.specs.declared.goodbyes.GoodByeReason.{GoodByeReason}
 use Rattle.wire.specs.declared.goodbyes.GoodByeReason.TheVariants as G
 use Rattle.wire.specs.declared.logouts.LogoutReason.{LogoutReason}
@@ -135,12 +135,7 @@ admitted_keeps (Some i) n s = keeps_same s
 
 decided_keeps : (t : Status) (a : Asked) (s : Pair) → Keeps s (decided t a s)
 decided_keeps Accepted a s = admitted_keeps _ a.number s
-decided_keeps UnknownUser a s = keeps_same s
-decided_keeps SessionUnavailable a s = keeps_same s
-decided_keeps InvalidNumber a s = keeps_same s
-decided_keeps WrongVersion a s = keeps_same s
-decided_keeps WrongProtocol a s = keeps_same s
-decided_keeps AlreadyLoggedIn a s = keeps_same s
+decided_keeps status a s = keeps_same s
 
 hub_acts_keep : (p : HubPhase) (v : Value) → Keeping (λ s. hub_acts p v s)
 hub_acts_keep p v = hub_acts_lem Keeping (λ f s. hub_gone_keeps _ s) (λ r s. keeps_same s) (λ r s. keeps_same s) (λ a e s. keeps_same s) (λ a s. decided_keeps _ a s) p v
@@ -308,12 +303,9 @@ leave_keeps true true s t h = keeps_same s
 leave_keeps true false s t h = h
 
 hub_timed_keeps : (p : HubPhase) (s : Pair) → Keeps s (hub_timed p s)
-hub_timed_keeps Shut s = keeps_same s
 hub_timed_keeps Waiting s = one_of (λ t. t) s (ltb waiting_limit s.hub.waited) (hub_gone G.LoginTimeout s) s (hub_gone_keeps G.LoginTimeout s) (keeps_same s)
-hub_timed_keeps (Answering q) s = keeps_same s
-hub_timed_keeps (Rejecting t) s = keeps_same s
 hub_timed_keeps (Serving q n o) s = one_of (λ t. t) s (ltb silence_limit s.hub.silent) (hub_leaves Shut s) s (keeps_same s) (keeps_same s)
-hub_timed_keeps (Filling n l) s = keeps_same s
+hub_timed_keeps phase s = keeps_same s
 
 seat_timed_keeps : (a b : Bool) (s : Pair) → Keeps s (cond a s (cond b (seat_to Apart s) s))
 seat_timed_keeps true b s = keeps_same s

@@ -6,7 +6,7 @@ use Rattle.wire.specs.declared.refusals.Refusal.TheVariants.{BadPacket, LogFull,
 use Rattle.wire.specs.Limits.{message_limit}
 use Rattle.wire.specs.declared.letters.Letter.TheVariants as L
 use Rattle.wire.specs.declared.statuses.Status.{Status}
-use Rattle.wire.specs.declared.statuses.Status.TheVariants.{Accepted, UnknownUser, SessionUnavailable, InvalidNumber, WrongVersion, WrongProtocol, AlreadyLoggedIn}
+use Rattle.wire.specs.declared.statuses.Status.TheVariants.{Accepted}
 use Rattle.wire.specs.declared.goodbyes.GoodByeReason.{GoodByeReason}
 use Rattle.wire.specs.declared.goodbyes.GoodByeReason.TheVariants as G
 use Rattle.wire.specs.declared.logouts.LogoutReason.{LogoutReason}
@@ -54,12 +54,7 @@ admitted_side (Some i) n s t = refl
 
 decided_side : (x : Status) (a : Asked) (s t : Pair) → decided x a (with_hub_side t s) ≡ with_hub_side t (decided x a s)
 decided_side Accepted a s t = admitted_side _ a.number s t
-decided_side UnknownUser a s t = refl
-decided_side SessionUnavailable a s t = refl
-decided_side InvalidNumber a s t = refl
-decided_side WrongVersion a s t = refl
-decided_side WrongProtocol a s t = refl
-decided_side AlreadyLoggedIn a s t = refl
+decided_side status a s t = refl
 
 hub_acts_side : (p : HubPhase) (v : Value) → OfHub (λ s. hub_acts p v s)
 hub_acts_side p v =
@@ -175,12 +170,9 @@ hub_gone_core r s t = go (fits s.down (encode (good_bye r [])))
     go false = refl
 
 pub hub_timed_core : (h : HubPhase) (s t : Pair) → hub_timed h (with_hub_core t s) ≡ with_hub_core t (hub_timed h s)
-hub_timed_core Shut s t = refl
 hub_timed_core Waiting s t = along (with_hub_core t) (ltb waiting_limit s.hub.waited) _ _ _ _ (hub_gone_core G.LoginTimeout s t) refl
-hub_timed_core (Answering q) s t = refl
-hub_timed_core (Rejecting x) s t = refl
 hub_timed_core (Serving q n d) s t = along (with_hub_core t) (ltb silence_limit s.hub.silent) _ _ _ _ refl refl
-hub_timed_core (Filling n l) s t = refl
+hub_timed_core phase s t = refl
 
 -- sends of the seat: neither the down line nor the frame is looked at
 seat_posts_core : (v : Value) (u s t : Pair) → seat_posts (Some v) (with_seat_core t u) (with_seat_core t s) ≡ on_side (with_seat_core t) (seat_posts (Some v) u s)

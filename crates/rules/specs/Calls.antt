@@ -12,13 +12,13 @@ use Rattle.message_log.specs.Meaning.{Meaning, count, begun, added}
 use Rattle.message_log.specs.Calls.{takes}
 use Rattle.account.specs.Logins.{Asked, spoken_version}
 use Rattle.rules.specs.declared.phases.HubPhase.{HubPhase}
-use Rattle.rules.specs.declared.phases.HubPhase.TheVariants.{Shut, Waiting, Answering, Rejecting, Serving, Filling}
+use Rattle.rules.specs.declared.phases.HubPhase.TheVariants.{Shut, Waiting, Answering, Serving, Filling}
 use Rattle.rules.specs.declared.phases.SeatPhase.{SeatPhase}
 use Rattle.rules.specs.declared.phases.SeatPhase.TheVariants.{Apart, Asking, Live}
 use Rattle.rules.specs.declared.phases.How.{How}
 use Rattle.rules.specs.declared.phases.How.TheVariants.{Join, Anew, Fetch}
 use Rattle.rules.specs.State.{Pair, Outcome}
-use Rattle.rules.specs.Changes.{with_hub, with_seat, with_log, grants, refuses, hub_leaves, hub_writes, seat_to, seat_writes, wiped}
+use Rattle.rules.specs.Changes.{with_log, grants, refuses, hub_leaves, hub_writes, seat_to, seat_writes, wiped}
 use Rattle.rules.specs.Hub.{hub_gone}
 use Rattle.rules.specs.Seat.{next_number, is_apart}
 
@@ -40,19 +40,35 @@ asked_number Anew log = 1
 asked_number (Fetch end) log = 0
 
 abbrev pub fetch_end : How → Option ℕ
-fetch_end Join = None
-fetch_end Anew = None
 fetch_end (Fetch end) = Some end
+fetch_end how = None
 
 -- the seat has asked: in step and the kept status are those of a new connection
 abbrev pub asking : How → Pair → Pair
 asking how s =
-    with_seat s (record { phase = Asking; session = asked_session how s.held; number = asked_number how s.held; fetch = fetch_end how; requested = false; in_step = false; status = None; frame = s.seat.frame; unsent = s.seat.unsent; silent = s.seat.silent })
+    record s {
+      seat = record s.seat {
+        phase = Asking;
+        session = asked_session how s.held;
+        number = asked_number how s.held;
+        fetch = fetch_end how;
+        requested = false;
+        in_step = false;
+        status = None;
+      };
+    }
 
 -- what the login of a pair asks
 abbrev pub asked : How → Pair → Asked
 asked how s =
-    record { version = spoken_version; user = s.account.user; computer = s.account.computer; protocol = s.account.protocol; session = asked_session how s.held; number = asked_number how s.held }
+    record {
+      version = spoken_version;
+      user = s.account.user;
+      computer = s.account.computer;
+      protocol = s.account.protocol;
+      session = asked_session how s.held;
+      number = asked_number how s.held;
+    }
 
 abbrev pub login_of : Asked → Value
 login_of a = login_request a.version a.user a.computer a.protocol a.session a.number
@@ -67,15 +83,15 @@ fetching end s =
     (cond (nat_le end (count s.held)) (refuses NothingToFetch s) (done (connected (Fetch end) s)))
 
 abbrev pub connect : How → Pair → Done
-connect Join s = done (connected Join s)
-connect Anew s = done (connected Anew s)
 connect (Fetch end) s = fetching end s
+connect how s = done (connected how s)
 
 abbrev pub cut : Pair → Pair
 cut s = seat_to Apart (hub_leaves Shut (wiped s))
 
 abbrev pub publishes : Result (Unit {0}) Refusal → List ℕ → Pair → Done
-publishes (Ok x) m s = cond s.running.finished (refuses SessionFinished s) (done (with_log s (added s.running.log m) false))
+publishes (Ok x) m s =
+    cond s.running.finished (refuses SessionFinished s) (done (with_log s (added s.running.log m) false))
 publishes (Err refusal) m s = refuses refusal s
 
 abbrev pub publish : List ℕ → Pair → Done
@@ -86,12 +102,10 @@ finish s = cond s.running.finished (refuses SessionFinished s) (done (with_log s
 
 -- the phases in which the hub is bound to the session of its login
 abbrev pub busy : HubPhase → Bool
-busy Shut = false
-busy Waiting = false
 busy (Answering asked) = true
-busy (Rejecting status) = false
 busy (Serving asked next owed) = true
 busy (Filling next last) = true
+busy phase = false
 
 abbrev pub last_session : ℕ
 last_session = 255
@@ -104,17 +118,12 @@ roll s =
     (done (with_log s (begun s.running.log (s.running.log.session + 1)) false)))
 
 abbrev pub is_serving : HubPhase → Bool
-is_serving Shut = false
-is_serving Waiting = false
-is_serving (Answering asked) = false
-is_serving (Rejecting status) = false
 is_serving (Serving asked next owed) = true
-is_serving (Filling next last) = false
+is_serving phase = false
 
 abbrev pub is_live : SeatPhase → Bool
-is_live Apart = false
-is_live Asking = false
 is_live Live = true
+is_live phase = false
 
 -- an unsequenced message from the hub, and one from the seat
 abbrev pub tell : List ℕ → Pair → Done
@@ -134,7 +143,9 @@ say m s =
 abbrev pub leave : Pair → Done
 leave s =
     cond (fits s.up (encode (logout_request X.Done [])))
-    (cond (is_apart s.seat.phase) (refuses WrongPhase s) (done (seat_to Apart (seat_writes (logout_request X.Done []) s))))
+    (cond (is_apart s.seat.phase)
+    (refuses WrongPhase s)
+    (done (seat_to Apart (seat_writes (logout_request X.Done []) s))))
     (refuses LineFull s)
 
 -- Time. Counts stop here.
@@ -153,17 +164,19 @@ waiting_limit = 300
 
 abbrev pub counted : Pair → Pair
 counted s =
-    with_seat
-    (with_hub s (record { phase = s.hub.phase; row = s.hub.row; frame = s.hub.frame; unsent = one_more s.hub.unsent; silent = one_more s.hub.silent; waited = one_more s.hub.waited }))
-    (record { phase = s.seat.phase; session = s.seat.session; number = s.seat.number; fetch = s.seat.fetch; requested = s.seat.requested; in_step = s.seat.in_step; status = s.seat.status; frame = s.seat.frame; unsent = one_more s.seat.unsent; silent = one_more s.seat.silent })
+    record s {
+      hub = record s.hub {
+        unsent = one_more s.hub.unsent;
+        silent = one_more s.hub.silent;
+        waited = one_more s.hub.waited;
+      };
+      seat = record s.seat { unsent = one_more s.seat.unsent; silent = one_more s.seat.silent };
+    }
 
 abbrev pub hub_timed : HubPhase → Pair → Pair
-hub_timed Shut s = s
 hub_timed Waiting s = cond (nat_lt waiting_limit s.hub.waited) (hub_gone G.LoginTimeout s) s
-hub_timed (Answering asked) s = s
-hub_timed (Rejecting status) s = s
 hub_timed (Serving asked next owed) s = cond (nat_lt silence_limit s.hub.silent) (hub_leaves Shut s) s
-hub_timed (Filling next last) s = s
+hub_timed phase s = s
 
 abbrev pub seat_timed : Pair → Pair
 seat_timed s = cond (is_apart s.seat.phase) s (cond (nat_lt silence_limit s.seat.silent) (seat_to Apart s) s)

@@ -15,28 +15,28 @@ use Rattle.rules.specs.State.{Running, HubEnd, SeatEnd, Buffers, Pair, Outcome}
 
 -- one part of a pair changes
 abbrev pub with_running : Pair → Running → Pair
-with_running s x = record { running = x; hub = s.hub; seat = s.seat; held = s.held; up = s.up; down = s.down; rows = s.rows; account = s.account; buffers = s.buffers }
+with_running s x = record s { running = x }
 
 abbrev pub with_hub : Pair → HubEnd → Pair
-with_hub s x = record { running = s.running; hub = x; seat = s.seat; held = s.held; up = s.up; down = s.down; rows = s.rows; account = s.account; buffers = s.buffers }
+with_hub s x = record s { hub = x }
 
 abbrev pub with_seat : Pair → SeatEnd → Pair
-with_seat s x = record { running = s.running; hub = s.hub; seat = x; held = s.held; up = s.up; down = s.down; rows = s.rows; account = s.account; buffers = s.buffers }
+with_seat s x = record s { seat = x }
 
 abbrev pub with_held : Pair → Meaning → Pair
-with_held s x = record { running = s.running; hub = s.hub; seat = s.seat; held = x; up = s.up; down = s.down; rows = s.rows; account = s.account; buffers = s.buffers }
+with_held s x = record s { held = x }
 
 abbrev pub with_up : Pair → LineView → Pair
-with_up s x = record { running = s.running; hub = s.hub; seat = s.seat; held = s.held; up = x; down = s.down; rows = s.rows; account = s.account; buffers = s.buffers }
+with_up s x = record s { up = x }
 
 abbrev pub with_down : Pair → LineView → Pair
-with_down s x = record { running = s.running; hub = s.hub; seat = s.seat; held = s.held; up = s.up; down = x; rows = s.rows; account = s.account; buffers = s.buffers }
+with_down s x = record s { down = x }
 
 abbrev pub with_rows : Pair → List Row → Pair
-with_rows s x = record { running = s.running; hub = s.hub; seat = s.seat; held = s.held; up = s.up; down = s.down; rows = x; account = s.account; buffers = s.buffers }
+with_rows s x = record s { rows = x }
 
 abbrev pub with_buffers : Pair → Buffers → Pair
-with_buffers s x = record { running = s.running; hub = s.hub; seat = s.seat; held = s.held; up = s.up; down = s.down; rows = s.rows; account = s.account; buffers = x }
+with_buffers s x = record s { buffers = x }
 
 abbrev pub with_log : Pair → Meaning → Bool → Pair
 with_log s log finished = with_running s (record { log = log; finished = finished })
@@ -55,31 +55,25 @@ unmarked rows (Some i) = marking rows i false
 
 -- the hub goes on to a phase of the same login
 abbrev pub hub_to : HubPhase → Pair → Pair
-hub_to phase s = with_hub s (record { phase = phase; row = s.hub.row; frame = s.hub.frame; unsent = s.hub.unsent; silent = s.hub.silent; waited = s.hub.waited })
+hub_to phase s = record s { hub = record s.hub { phase = phase } }
 
 -- the hub has no login any more, so the mark of its row goes
 abbrev pub hub_leaves : HubPhase → Pair → Pair
 hub_leaves phase s =
-    with_rows
-    (with_hub s (record { phase = phase; row = None; frame = s.hub.frame; unsent = s.hub.unsent; silent = s.hub.silent; waited = s.hub.waited }))
-    (unmarked s.rows s.hub.row)
+    record s { hub = record s.hub { phase = phase; row = None }; rows = unmarked s.rows s.hub.row }
 
 -- a login by row i is accepted: the row is marked
 abbrev pub hub_admits : ℕ → HubPhase → Pair → Pair
 hub_admits i phase s =
-    with_rows
-    (with_hub s (record { phase = phase; row = Some i; frame = s.hub.frame; unsent = s.hub.unsent; silent = s.hub.silent; waited = s.hub.waited }))
-    (marking s.rows i true)
+    record s { hub = record s.hub { phase = phase; row = Some i }; rows = marking s.rows i true }
 
 abbrev pub with_out : Pair → List ℕ → Pair
-with_out s bytes = with_buffers s (record { hub_frame = s.buffers.hub_frame; seat_frame = s.buffers.seat_frame; out = fronted bytes s.buffers.out })
+with_out s bytes = record s { buffers = record s.buffers { out = fronted bytes s.buffers.out } }
 
 -- the hub writes a packet: it stands at the front of the outgoing buffer, and behind what waits on the down line
 abbrev pub hub_writes : Value → Pair → Pair
 hub_writes v s =
-    with_down
-    (with_hub (with_out s (encode v)) (record { phase = s.hub.phase; row = s.hub.row; frame = s.hub.frame; unsent = 0; silent = s.hub.silent; waited = s.hub.waited }))
-    (joined s.down (encode v))
+    record (with_out s (encode v)) { hub = record s.hub { unsent = 0 }; down = joined s.down (encode v) }
 
 -- it writes a packet if the line has the room, and goes without if not
 abbrev pub hub_tells : Value → Pair → Pair
@@ -88,47 +82,40 @@ hub_tells v s = cond (fits s.down (encode v)) (hub_writes v s) s
 -- the hub took these bytes: its frame and the up line are then those
 abbrev pub hub_took : List ℕ → List ℕ → LineView → Pair → Pair
 hub_took got frame up s =
-    with_up
-    (with_hub
-    (with_buffers s (record { hub_frame = laid s.buffers.hub_frame (length s.hub.frame) got; seat_frame = s.buffers.seat_frame; out = s.buffers.out }))
-    (record { phase = s.hub.phase; row = s.hub.row; frame = frame; unsent = s.hub.unsent; silent = 0; waited = s.hub.waited }))
-    up
+    record s {
+      hub = record s.hub { frame = frame; silent = 0 };
+      up = up;
+      buffers = record s.buffers { hub_frame = laid s.buffers.hub_frame (length s.hub.frame) got };
+    }
 
 abbrev pub seat_with : SeatPhase → Bool → Option Status → Pair → Pair
 seat_with phase in_step status s =
-    with_seat s (record { phase = phase; session = s.seat.session; number = s.seat.number; fetch = s.seat.fetch; requested = s.seat.requested; in_step = in_step; status = status; frame = s.seat.frame; unsent = s.seat.unsent; silent = s.seat.silent })
+    record s { seat = record s.seat { phase = phase; in_step = in_step; status = status } }
 
 abbrev pub seat_to : SeatPhase → Pair → Pair
-seat_to phase s = seat_with phase s.seat.in_step s.seat.status s
+seat_to phase s = record s { seat = record s.seat { phase = phase } }
 
 abbrev pub seat_writes : Value → Pair → Pair
 seat_writes v s =
-    with_up
-    (with_seat (with_out s (encode v)) (record { phase = s.seat.phase; session = s.seat.session; number = s.seat.number; fetch = s.seat.fetch; requested = s.seat.requested; in_step = s.seat.in_step; status = s.seat.status; frame = s.seat.frame; unsent = 0; silent = s.seat.silent }))
-    (joined s.up (encode v))
+    record (with_out s (encode v)) { seat = record s.seat { unsent = 0 }; up = joined s.up (encode v) }
 
 abbrev pub seat_tells : Value → Pair → Pair
 seat_tells v s = cond (fits s.up (encode v)) (seat_writes v s) s
 
 abbrev pub seat_took : List ℕ → List ℕ → LineView → Pair → Pair
 seat_took got frame down s =
-    with_down
-    (with_seat
-    (with_buffers s (record { hub_frame = s.buffers.hub_frame; seat_frame = laid s.buffers.seat_frame (length s.seat.frame) got; out = s.buffers.out }))
-    (record { phase = s.seat.phase; session = s.seat.session; number = s.seat.number; fetch = s.seat.fetch; requested = s.seat.requested; in_step = s.seat.in_step; status = s.seat.status; frame = frame; unsent = s.seat.unsent; silent = 0 }))
-    down
+    record s {
+      seat = record s.seat { frame = frame; silent = 0 };
+      down = down;
+      buffers = record s.buffers { seat_frame = laid s.buffers.seat_frame (length s.seat.frame) got };
+    }
 
 -- lines, frames and tick counts are cleared
 abbrev pub wiped : Pair → Pair
 wiped s =
-    record {
-      running = s.running;
-      hub = record { phase = s.hub.phase; row = s.hub.row; frame = []; unsent = 0; silent = 0; waited = 0 };
-      seat = record { phase = s.seat.phase; session = s.seat.session; number = s.seat.number; fetch = s.seat.fetch; requested = s.seat.requested; in_step = s.seat.in_step; status = s.seat.status; frame = []; unsent = 0; silent = 0 };
-      held = s.held;
+    record s {
+      hub = record s.hub { frame = []; unsent = 0; silent = 0; waited = 0 };
+      seat = record s.seat { frame = []; unsent = 0; silent = 0 };
       up = cleared s.up;
       down = cleared s.down;
-      rows = s.rows;
-      account = s.account;
-      buffers = s.buffers;
     }

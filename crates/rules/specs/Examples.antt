@@ -24,11 +24,12 @@ use Rattle.rules.specs.declared.answers.Received.{Received}
 use Rattle.rules.specs.declared.answers.Received.TheVariants.{Part, Acted, Message}
 use Rattle.rules.specs.State.{HubEnd, SeatEnd, Pair}
 use Rattle.rules.specs.Changes.{with_held, with_up, with_down, with_rows}
-use Rattle.rules.specs.Hub.{hub_hears, hub_sends}
+use Rattle.rules.specs.Hub.{Sending, hub_hears, hub_sends}
 use Rattle.rules.specs.Seat.{seat_hears}
 use Rattle.rules.specs.Calls.{connected, tick}
 use Rattle.rules.specs.Rounds.{Call, Connect, Publish, Finish, Round}
 use Rattle.rules.specs.Roomiest.{roomiest}
+use Rattle.rules.specs.Sides.{no_hub, no_seat}
 
 -- one account row, of user "nora", computer "desk" and protocol "FILLS"
 abbrev pub user : List ℕ
@@ -41,7 +42,8 @@ abbrev pub protocol : List ℕ
 protocol = 0x46 ∷ 0x49 ∷ 0x4C ∷ 0x4C ∷ 0x53 ∷ 0x20 ∷ 0x20 ∷ 0x20 ∷ []
 
 abbrev pub row : Bool → Row
-row marked = record { account = record { user = user; computer = computer; protocol = protocol }; marked = marked }
+row marked =
+    record { account = record { user = user; computer = computer; protocol = protocol }; marked = marked }
 
 -- two messages
 abbrev pub first : List ℕ
@@ -61,10 +63,10 @@ abbrev pub slow : LineView
 slow = fresh packet_limit 1
 
 abbrev pub hub_in : HubPhase → HubEnd
-hub_in phase = record { phase = phase; row = None; frame = []; unsent = 0; silent = 0; waited = 0 }
+hub_in phase = record no_hub { phase = phase }
 
 abbrev pub seat_in : SeatPhase → SeatEnd
-seat_in phase = record { phase = phase; session = 7; number = 1; fetch = None; requested = false; in_step = false; status = None; frame = []; unsent = 0; silent = 0 }
+seat_in phase = record no_seat { phase = phase; session = 7; number = 1 }
 
 abbrev pub buffer : List ℕ
 buffer = replicate packet_limit 0
@@ -97,12 +99,27 @@ pub record Seen : Type 0 where
   pub status : Option Status
 
 abbrev pub seen : Pair → Seen
-seen s = record { hub = s.hub.phase; seat = s.seat.phase; held = s.held.messages; in_step = s.seat.in_step; status = s.seat.status }
+seen s =
+    record {
+      hub = s.hub.phase;
+      seat = s.seat.phase;
+      held = s.held.messages;
+      in_step = s.seat.in_step;
+      status = s.seat.status;
+    }
 
 pub record Story : Type 0 where
   pub before : Pair
   pub calls : List Call
   pub sees : Seen
+
+abbrev pub story : Pair → List Call → HubPhase → SeatPhase → List (List ℕ) → Bool → Option Status → Story
+story before calls hub seat held in_step status =
+    record {
+      before = before;
+      calls = calls;
+      sees = record { hub = hub; seat = seat; held = held; in_step = in_step; status = status };
+    }
 
 -- a seat that holds nothing, one that holds message 1, and one that holds both
 abbrev pub empty : Pair
@@ -117,29 +134,35 @@ level = pair Shut Apart (log 7 (first ∷ second ∷ []))
 abbrev pub stories : List Story
 stories =
     -- a connect writes the login
-    record { before = empty; calls = Connect Anew ∷ []; sees = record { hub = Waiting; seat = Asking; held = []; in_step = false; status = None } }
+    story empty (Connect Anew ∷ []) Waiting Asking [] false None
     -- one round answers it, one for each message, and one to say that all are sent
-    ∷ record { before = empty; calls = Connect Anew ∷ Round ∷ []; sees = record { hub = Serving 1 1 true; seat = Live; held = []; in_step = false; status = None } }
-    ∷ record { before = empty; calls = Connect Anew ∷ Round ∷ Round ∷ Round ∷ []; sees = record { hub = Serving 1 3 true; seat = Live; held = first ∷ second ∷ []; in_step = false; status = None } }
-    ∷ record { before = empty; calls = Connect Anew ∷ Round ∷ Round ∷ Round ∷ Round ∷ []; sees = record { hub = Serving 1 3 false; seat = Live; held = first ∷ second ∷ []; in_step = true; status = None } }
+    ∷ story empty (Connect Anew ∷ Round ∷ []) (Serving 1 1 true) Live [] false None
+    ∷ story empty (Connect Anew ∷ Round ∷ Round ∷ Round ∷ [])
+    (Serving 1 3 true) Live (first ∷ second ∷ []) false None
+    ∷ story empty (Connect Anew ∷ Round ∷ Round ∷ Round ∷ Round ∷ [])
+    (Serving 1 3 false) Live (first ∷ second ∷ []) true None
     -- it is the same over lines that hand out a byte at a time
-    ∷ record { before = with_down (with_up empty slow) slow; calls = Connect Anew ∷ Round ∷ Round ∷ Round ∷ Round ∷ []; sees = record { hub = Serving 1 3 false; seat = Live; held = first ∷ second ∷ []; in_step = true; status = None } }
+    ∷ story (with_down (with_up empty slow) slow) (Connect Anew ∷ Round ∷ Round ∷ Round ∷ Round ∷ [])
+    (Serving 1 3 false) Live (first ∷ second ∷ []) true None
     -- a seat that lacks nothing is in step by the answer to its login
-    ∷ record { before = level; calls = Connect Join ∷ Round ∷ []; sees = record { hub = Serving 3 3 false; seat = Live; held = first ∷ second ∷ []; in_step = true; status = None } }
+    ∷ story level (Connect Join ∷ Round ∷ []) (Serving 3 3 false) Live (first ∷ second ∷ []) true None
     -- one that lacks a message is not
-    ∷ record { before = behind; calls = Connect Join ∷ Round ∷ []; sees = record { hub = Serving 2 2 true; seat = Live; held = first ∷ []; in_step = false; status = None } }
+    ∷ story behind (Connect Join ∷ Round ∷ []) (Serving 2 2 true) Live (first ∷ []) false None
     -- a message published since comes before all is said to be sent
-    ∷ record { before = behind; calls = Connect Join ∷ Round ∷ Publish first ∷ Round ∷ Round ∷ Round ∷ []; sees = record { hub = Serving 2 4 false; seat = Live; held = first ∷ second ∷ first ∷ []; in_step = true; status = None } }
+    ∷ story behind (Connect Join ∷ Round ∷ Publish first ∷ Round ∷ Round ∷ Round ∷ [])
+    (Serving 2 4 false) Live (first ∷ second ∷ first ∷ []) true None
     -- a finished session ends the connection
-    ∷ record { before = level; calls = Connect Join ∷ Round ∷ Finish ∷ Round ∷ []; sees = record { hub = Shut; seat = Apart; held = first ∷ second ∷ []; in_step = true; status = None } }
+    ∷ story level (Connect Join ∷ Round ∷ Finish ∷ Round ∷ []) Shut Apart (first ∷ second ∷ []) true None
     -- a login that is rejected: nobody of that name, a log ahead of the hub's, a row that is marked
-    ∷ record { before = with_rows empty []; calls = Connect Anew ∷ Round ∷ []; sees = record { hub = Shut; seat = Apart; held = []; in_step = false; status = Some UnknownUser } }
-    ∷ record { before = with_held empty (log 7 (first ∷ second ∷ first ∷ [])); calls = Connect Join ∷ Round ∷ []; sees = record { hub = Shut; seat = Apart; held = first ∷ second ∷ first ∷ []; in_step = false; status = Some InvalidNumber } }
-    ∷ record { before = with_rows level (row true ∷ []); calls = Connect Join ∷ Round ∷ []; sees = record { hub = Shut; seat = Apart; held = first ∷ second ∷ []; in_step = false; status = Some AlreadyLoggedIn } }
+    ∷ story (with_rows empty []) (Connect Anew ∷ Round ∷ []) Shut Apart [] false (Some UnknownUser)
+    ∷ story (with_held empty (log 7 (first ∷ second ∷ first ∷ []))) (Connect Join ∷ Round ∷ [])
+    Shut Apart (first ∷ second ∷ first ∷ []) false (Some InvalidNumber)
+    ∷ story (with_rows level (row true ∷ [])) (Connect Join ∷ Round ∷ [])
+    Shut Apart (first ∷ second ∷ []) false (Some AlreadyLoggedIn)
     -- a fetch: the login, the request, the message, the end of the fill
-    ∷ record { before = behind; calls = Connect (Fetch 2) ∷ Round ∷ []; sees = record { hub = Serving 0 3 false; seat = Live; held = first ∷ []; in_step = false; status = None } }
-    ∷ record { before = behind; calls = Connect (Fetch 2) ∷ Round ∷ Round ∷ []; sees = record { hub = Filling 3 2; seat = Live; held = first ∷ second ∷ []; in_step = false; status = None } }
-    ∷ record { before = behind; calls = Connect (Fetch 2) ∷ Round ∷ Round ∷ Round ∷ []; sees = record { hub = Shut; seat = Live; held = first ∷ second ∷ []; in_step = false; status = None } }
+    ∷ story behind (Connect (Fetch 2) ∷ Round ∷ []) (Serving 0 3 false) Live (first ∷ []) false None
+    ∷ story behind (Connect (Fetch 2) ∷ Round ∷ Round ∷ []) (Filling 3 2) Live (first ∷ second ∷ []) false None
+    ∷ story behind (Connect (Fetch 2) ∷ Round ∷ Round ∷ Round ∷ []) Shut Live (first ∷ second ∷ []) false None
     ∷ []
 
 -- Ticks alone, and what is then seen.
@@ -153,7 +176,11 @@ pub record Wait : Type 0 where
   pub hub : HubPhase
   pub seat : SeatPhase
   -- what waits for the seat
-  pub told : List ℕ
+  pub down : List ℕ
+
+abbrev pub wait : Pair → ℕ → HubPhase → SeatPhase → List ℕ → Wait
+wait before ticks hub seat down =
+    record { before = before; ticks = ticks; hub = hub; seat = seat; down = down }
 
 abbrev pub full : LineView
 full = record { waiting = 0x01 ∷ []; room = 0; full = packet_limit; limit = packet_limit }
@@ -161,14 +188,14 @@ full = record { waiting = 0x01 ∷ []; room = 0; full = packet_limit; limit = pa
 abbrev pub waits : List Wait
 waits =
     -- 30 ticks in which neither hears a byte are survived, and 31 are not
-    record { before = pair (Serving 1 3 false) Live (log 7 []); ticks = 30; hub = Serving 1 3 false; seat = Live; told = [] }
-    ∷ record { before = pair (Serving 1 3 false) Live (log 7 []); ticks = 31; hub = Shut; seat = Apart; told = [] }
+    wait (pair (Serving 1 3 false) Live (log 7 [])) 30 (Serving 1 3 false) Live []
+    ∷ wait (pair (Serving 1 3 false) Live (log 7 [])) 31 Shut Apart []
     -- a fill has no limit, the seat has
-    ∷ record { before = pair (Filling 3 2) Live (log 7 []); ticks = 31; hub = Filling 3 2; seat = Apart; told = [] }
+    ∷ wait (pair (Filling 3 2) Live (log 7 [])) 31 (Filling 3 2) Apart []
     -- a login is awaited for 300 ticks; at the next the hub says why it goes, if the line has the room
-    ∷ record { before = pair Waiting Apart (log 7 []); ticks = 300; hub = Waiting; seat = Apart; told = [] }
-    ∷ record { before = pair Waiting Apart (log 7 []); ticks = 301; hub = Shut; seat = Apart; told = encode (good_bye G.LoginTimeout []) }
-    ∷ record { before = with_down (pair Waiting Apart (log 7 [])) full; ticks = 301; hub = Shut; seat = Apart; told = 0x01 ∷ [] }
+    ∷ wait (pair Waiting Apart (log 7 [])) 300 Waiting Apart []
+    ∷ wait (pair Waiting Apart (log 7 [])) 301 Shut Apart (encode (good_bye G.LoginTimeout []))
+    ∷ wait (with_down (pair Waiting Apart (log 7 [])) full) 301 Shut Apart (0x01 ∷ [])
     ∷ []
 
 -- Counts of a pair at rest after so many ticks.
@@ -178,7 +205,11 @@ pub record Count : Type 0 where
 
 abbrev pub counts : List Count
 counts =
-    record { ticks = 0; count = 0 } ∷ record { ticks = 999; count = 999 } ∷ record { ticks = 1000; count = 1000 } ∷ record { ticks = 1001; count = 1000 } ∷ []
+    record { ticks = 0; count = 0 }
+    ∷ record { ticks = 999; count = 999 }
+    ∷ record { ticks = 1000; count = 1000 }
+    ∷ record { ticks = 1001; count = 1000 }
+    ∷ []
 
 pub record Counted (x : Count) : Type 0 where
   pub unsent : (ticked x.ticks empty).hub.unsent ≡ x.count
@@ -202,9 +233,12 @@ asks =
     ∷ record { number = 3; next = 3; owed = false }
     ∷ []
 
+abbrev pub answer_to : ℕ → Sending
+answer_to number = hub_sends (pair (Answering number) Asking (log 7 []))
+
 pub record Asked (x : Ask) : Type 0 where
-  pub phase : (hub_sends (pair (Answering x.number) Asking (log 7 []))).after.hub.phase ≡ Serving x.number x.next x.owed
-  pub wrote : (hub_sends (pair (Answering x.number) Asking (log 7 []))).wrote ≡ Some (login_response Accepted 7 2)
+  pub phase : (answer_to x.number).after.hub.phase ≡ Serving x.number x.next x.owed
+  pub wrote : (answer_to x.number).wrote ≡ Some (login_response Accepted 7 2)
 
 -- What the hub answers in a phase to bytes that come at once.
 pub record HubHearing : Type 0 where
@@ -212,22 +246,28 @@ pub record HubHearing : Type 0 where
   pub bytes : List ℕ
   pub answer : Result Received Refusal
 
+abbrev pub hub_hearing : HubPhase → List ℕ → Result Received Refusal → HubHearing
+hub_hearing phase bytes answer = record { phase = phase; bytes = bytes; answer = answer }
+
 abbrev pub hub_hearings : List HubHearing
 hub_hearings =
-    record { phase = Waiting; bytes = encode (login_request spoken_version user computer protocol 7 1); answer = Ok (Acted L.LoginRequest) }
-    -- a letter out of place is told before a wrong length or content
-    ∷ record { phase = Waiting; bytes = encode (test []); answer = Err (BadPacket OutOfPlace) }
-    ∷ record { phase = Waiting; bytes = 0x02 ∷ 0x00 ∷ 0x31 ∷ 0x00 ∷ []; answer = Err (BadPacket OutOfPlace) }
-    ∷ record { phase = Serving 1 3 false; bytes = 0x02 ∷ 0x00 ∷ 0x31 ∷ 0x00 ∷ []; answer = Err (BadPacket WrongLength) }
-    ∷ record { phase = Serving 1 3 false; bytes = encode (unsequenced first); answer = Ok (Message 3 2) }
-    ∷ record { phase = Serving 1 3 false; bytes = encode seat_heartbeat; answer = Ok (Acted L.SeatHeartbeat) }
-    ∷ record { phase = Serving 1 3 false; bytes = 0x01 ∷ 0x00 ∷ []; answer = Ok Part }
-    ∷ record { phase = Serving 1 3 false; bytes = 0x00 ∷ 0x00 ∷ []; answer = Err (BadPacket LengthZero) }
+    hub_hearing Waiting (encode (login_request spoken_version user computer protocol 7 1))
+    (Ok (Acted L.LoginRequest))
+    -- a letter out of place is reported before a wrong length or content
+    ∷ hub_hearing Waiting (encode (test [])) (Err (BadPacket OutOfPlace))
+    ∷ hub_hearing Waiting (0x02 ∷ 0x00 ∷ 0x31 ∷ 0x00 ∷ []) (Err (BadPacket OutOfPlace))
+    ∷ hub_hearing (Serving 1 3 false) (0x02 ∷ 0x00 ∷ 0x31 ∷ 0x00 ∷ []) (Err (BadPacket WrongLength))
+    ∷ hub_hearing (Serving 1 3 false) (encode (unsequenced first)) (Ok (Message 3 2))
+    ∷ hub_hearing (Serving 1 3 false) (encode seat_heartbeat) (Ok (Acted L.SeatHeartbeat))
+    ∷ hub_hearing (Serving 1 3 false) (0x01 ∷ 0x00 ∷ []) (Ok Part)
+    ∷ hub_hearing (Serving 1 3 false) (0x00 ∷ 0x00 ∷ []) (Err (BadPacket LengthZero))
     -- a retransmission is for those who asked for 0, and its start before its end
-    ∷ record { phase = Serving 1 3 false; bytes = encode (retransmission_request 1 2); answer = Err (BadPacket OutOfPlace) }
-    ∷ record { phase = Serving 0 3 false; bytes = encode (retransmission_request 1 2); answer = Ok (Acted L.RetransmissionRequest) }
-    ∷ record { phase = Serving 0 3 false; bytes = encode (retransmission_request 0 0); answer = Err (BadPacket (WrongContent Field.Start)) }
-    ∷ record { phase = Serving 0 3 false; bytes = encode (retransmission_request 2 1); answer = Err (BadPacket (WrongContent Field.End)) }
+    ∷ hub_hearing (Serving 1 3 false) (encode (retransmission_request 1 2)) (Err (BadPacket OutOfPlace))
+    ∷ hub_hearing (Serving 0 3 false) (encode (retransmission_request 1 2)) (Ok (Acted L.RetransmissionRequest))
+    ∷ hub_hearing (Serving 0 3 false) (encode (retransmission_request 0 0))
+    (Err (BadPacket (WrongContent Field.Start)))
+    ∷ hub_hearing (Serving 0 3 false) (encode (retransmission_request 2 1))
+    (Err (BadPacket (WrongContent Field.End)))
     ∷ []
 
 -- What a seat that holds message 1 answers, its login being for session 7.
@@ -236,16 +276,19 @@ pub record SeatHearing : Type 0 where
   pub bytes : List ℕ
   pub answer : Result Received Refusal
 
+abbrev pub seat_hearing : SeatPhase → List ℕ → Result Received Refusal → SeatHearing
+seat_hearing phase bytes answer = record { phase = phase; bytes = bytes; answer = answer }
+
 abbrev pub seat_hearings : List SeatHearing
 seat_hearings =
-    record { phase = Asking; bytes = encode (login_response Accepted 7 2); answer = Ok (Acted L.LoginResponse) }
-    ∷ record { phase = Asking; bytes = encode (login_response Accepted 6 2); answer = Err (BadPacket (WrongContent Field.Session)) }
-    ∷ record { phase = Asking; bytes = encode (sequenced 2 second); answer = Err (BadPacket OutOfPlace) }
+    seat_hearing Asking (encode (login_response Accepted 7 2)) (Ok (Acted L.LoginResponse))
+    ∷ seat_hearing Asking (encode (login_response Accepted 6 2)) (Err (BadPacket (WrongContent Field.Session)))
+    ∷ seat_hearing Asking (encode (sequenced 2 second)) (Err (BadPacket OutOfPlace))
     -- the next message, one that it holds, and one too far
-    ∷ record { phase = Live; bytes = encode (sequenced 2 second); answer = Ok (Acted L.Sequenced) }
-    ∷ record { phase = Live; bytes = encode (sequenced 1 first); answer = Ok (Acted L.Sequenced) }
-    ∷ record { phase = Live; bytes = encode (sequenced 3 first); answer = Err (BadPacket (WrongContent Field.SequenceNumber)) }
-    ∷ record { phase = Live; bytes = encode seat_heartbeat; answer = Err (BadPacket OutOfPlace) }
+    ∷ seat_hearing Live (encode (sequenced 2 second)) (Ok (Acted L.Sequenced))
+    ∷ seat_hearing Live (encode (sequenced 1 first)) (Ok (Acted L.Sequenced))
+    ∷ seat_hearing Live (encode (sequenced 3 first)) (Err (BadPacket (WrongContent Field.SequenceNumber)))
+    ∷ seat_hearing Live (encode seat_heartbeat) (Err (BadPacket OutOfPlace))
     ∷ []
 
 -- A pair in the midst of things, which a connect clears but for what is kept.
@@ -253,8 +296,21 @@ abbrev pub busy : Pair
 busy =
     record {
       running = record { log = log 7 (first ∷ second ∷ []); finished = true };
-      hub = record { phase = Serving 1 3 false; row = Some 0; frame = 0x09 ∷ []; unsent = 4; silent = 5; waited = 6 };
-      seat = record { phase = Live; session = 7; number = 1; fetch = None; requested = false; in_step = true; status = Some UnknownUser; frame = 0x08 ∷ []; unsent = 7; silent = 8 };
+      hub = record {
+        phase = Serving 1 3 false;
+        row = Some 0;
+        frame = 0x09 ∷ [];
+        unsent = 4;
+        silent = 5;
+        waited = 6;
+      };
+      seat = record (seat_in Live) {
+        in_step = true;
+        status = Some UnknownUser;
+        frame = 0x08 ∷ [];
+        unsent = 7;
+        silent = 8;
+      };
       held = log 7 (first ∷ []);
       up = full;
       down = full;
@@ -268,7 +324,7 @@ login = login_request spoken_version user computer protocol 7 2
 
 pub record Cleared : Type 0 where
   pub hub : (connected Join busy).hub ≡ hub_in Waiting
-  pub seat : (connected Join busy).seat ≡ record { phase = Asking; session = 7; number = 2; fetch = None; requested = false; in_step = false; status = None; frame = []; unsent = 0; silent = 0 }
+  pub seat : (connected Join busy).seat ≡ record (seat_in Asking) { number = 2 }
   pub up : (connected Join busy).up.waiting ≡ encode login
   pub room : (connected Join busy).up.room ≡ packet_limit - 38
   pub down : (connected Join busy).down ≡ line
@@ -276,14 +332,14 @@ pub record Cleared : Type 0 where
   pub running : (connected Join busy).running ≡ busy.running
   pub held : (connected Join busy).held ≡ busy.held
 
-abbrev pub Told : Story → Type 0
-Told x = seen (after x.calls x.before) ≡ x.sees
+abbrev pub IsSeen : Story → Type 0
+IsSeen x = seen (after x.calls x.before) ≡ x.sees
 
 abbrev pub Waited : Wait → Type 0
 Waited x =
     ((ticked x.ticks x.before).hub.phase ≡ x.hub)
     × ((ticked x.ticks x.before).seat.phase ≡ x.seat)
-    × ((ticked x.ticks x.before).down.waiting ≡ x.told)
+    × ((ticked x.ticks x.before).down.waiting ≡ x.down)
 
 abbrev pub HubHeard : HubHearing → Type 0
 HubHeard x = (hub_hears x.bytes line (pair x.phase Apart (log 0 []))).answer ≡ x.answer
@@ -292,7 +348,7 @@ abbrev pub SeatHeard : SeatHearing → Type 0
 SeatHeard x = (seat_hears x.bytes line (pair Shut x.phase (log 7 (first ∷ [])))).answer ≡ x.answer
 
 pub record ExamplesHold : Type 0 where
-  pub stories : AllByRecursion Told stories
+  pub stories : AllByRecursion IsSeen stories
   pub waits : AllByRecursion Waited waits
   pub counts : AllByRecursion Counted counts
   pub asks : AllByRecursion Asked asks

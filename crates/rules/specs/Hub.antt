@@ -8,7 +8,7 @@ use Rattle.wire.specs.declared.refusals.Refusal.TheVariants.{BadPacket, LineFull
 use Rattle.wire.specs.declared.letters.Letter.{Letter}
 use Rattle.wire.specs.declared.letters.Letter.TheVariants as L
 use Rattle.wire.specs.declared.statuses.Status.{Status}
-use Rattle.wire.specs.declared.statuses.Status.TheVariants.{Accepted, UnknownUser, SessionUnavailable, InvalidNumber, WrongVersion, WrongProtocol, AlreadyLoggedIn}
+use Rattle.wire.specs.declared.statuses.Status.TheVariants.{Accepted}
 use Rattle.wire.specs.declared.goodbyes.GoodByeReason.{GoodByeReason}
 use Rattle.wire.specs.declared.goodbyes.GoodByeReason.TheVariants as G
 use Rattle.packet.specs.Values.{Value, login_request, login_response, sequenced, unsequenced, synchronization_complete, retransmission_request, logout_request, good_bye, end_of_session, hub_heartbeat, seat_heartbeat, test, letter, encode}
@@ -27,8 +27,8 @@ use Rattle.rules.specs.Changes.{with_up, grants, refuses, hub_to, hub_leaves, hu
 use Rattle.rules.specs.Frames.{judged}
 
 -- where a message begins in an unsequenced packet: behind the length number and the letter
-abbrev pub message_place : ℕ
-message_place = 3
+abbrev pub message_offset : ℕ
+message_offset = 3
 
 -- the hub says goodbye and is shut
 abbrev pub hub_gone : GoodByeReason → Pair → Pair
@@ -39,21 +39,18 @@ hub_bad fault s = refuses (BadPacket fault) (hub_gone G.BadPacket s)
 
 -- the phases in which the hub takes from its line, and the letters that it takes there
 abbrev pub listens : HubPhase → Bool
-listens Shut = false
 listens Waiting = true
-listens (Answering asked) = false
-listens (Rejecting status) = false
 listens (Serving asked next owed) = true
 listens (Filling next last) = true
+listens phase = false
 
 abbrev pub hub_letters : HubPhase → List Letter
-hub_letters Shut = []
 hub_letters Waiting = L.LoginRequest ∷ []
-hub_letters (Answering asked) = []
-hub_letters (Rejecting status) = []
 hub_letters (Serving asked next owed) =
-    L.Unsequenced ∷ L.LogoutRequest ∷ L.SeatHeartbeat ∷ L.Test ∷ cond (asked == 0) (L.RetransmissionRequest ∷ []) []
+    L.Unsequenced ∷ L.LogoutRequest ∷ L.SeatHeartbeat ∷ L.Test
+    ∷ cond (asked == 0) (L.RetransmissionRequest ∷ []) []
 hub_letters (Filling next last) = L.Unsequenced ∷ L.LogoutRequest ∷ L.SeatHeartbeat ∷ L.Test ∷ []
+hub_letters phase = []
 
 -- the row of an accepted login is marked
 abbrev pub admitted : Option ℕ → ℕ → Pair → Pair
@@ -63,12 +60,7 @@ admitted (Some i) number s = hub_admits i (Answering number) s
 -- what follows from the login decision
 abbrev pub decided : Status → Asked → Pair → Pair
 decided Accepted asked s = admitted (found s.rows asked.user asked.computer) asked.number s
-decided UnknownUser asked s = hub_to (Rejecting UnknownUser) s
-decided SessionUnavailable asked s = hub_to (Rejecting SessionUnavailable) s
-decided InvalidNumber asked s = hub_to (Rejecting InvalidNumber) s
-decided WrongVersion asked s = hub_to (Rejecting WrongVersion) s
-decided WrongProtocol asked s = hub_to (Rejecting WrongProtocol) s
-decided AlreadyLoggedIn asked s = hub_to (Rejecting AlreadyLoggedIn) s
+decided status asked s = hub_to (Rejecting status) s
 
 abbrev pub logs_in : Asked → Pair → Pair
 logs_in asked s = decided (status_for s.rows s.running.log.session (count s.running.log) asked) asked s
@@ -87,54 +79,31 @@ beat_while_filling next last s = cond (nat_le next last) s (hub_leaves Shut s)
 -- what the hub does depends on its phase and the packet together
 abbrev pub hub_waiting : Value → Pair → Outcome Received
 hub_waiting (login_request v u c p session number) s =
-    grants (Acted L.LoginRequest) (logs_in (record { version = v; user = u; computer = c; protocol = p; session = session; number = number }) s)
-hub_waiting (login_response t session n) s = hub_bad OutOfPlace s
-hub_waiting (sequenced n m) s = hub_bad OutOfPlace s
-hub_waiting (unsequenced m) s = hub_bad OutOfPlace s
-hub_waiting synchronization_complete s = hub_bad OutOfPlace s
-hub_waiting (retransmission_request a e) s = hub_bad OutOfPlace s
-hub_waiting (logout_request r t) s = hub_bad OutOfPlace s
-hub_waiting (good_bye r t) s = hub_bad OutOfPlace s
-hub_waiting end_of_session s = hub_bad OutOfPlace s
-hub_waiting hub_heartbeat s = hub_bad OutOfPlace s
-hub_waiting seat_heartbeat s = hub_bad OutOfPlace s
-hub_waiting (test t) s = hub_bad OutOfPlace s
+    let asked : Asked =
+    record { version = v; user = u; computer = c; protocol = p; session = session; number = number } in
+    grants (Acted L.LoginRequest) (logs_in asked s)
+hub_waiting v s = hub_bad OutOfPlace s
 
 abbrev pub hub_serving : ℕ → Value → Pair → Outcome Received
-hub_serving asked (login_request v u c p session number) s = hub_bad OutOfPlace s
-hub_serving asked (login_response t session n) s = hub_bad OutOfPlace s
-hub_serving asked (sequenced n m) s = hub_bad OutOfPlace s
-hub_serving asked (unsequenced m) s = grants (Message message_place (length m)) s
-hub_serving asked synchronization_complete s = hub_bad OutOfPlace s
+hub_serving asked (unsequenced m) s = grants (Message message_offset (length m)) s
 hub_serving asked (retransmission_request a e) s = cond (asked == 0) (refills a e s) (hub_bad OutOfPlace s)
 hub_serving asked (logout_request r t) s = grants (Acted L.LogoutRequest) (hub_leaves Shut s)
-hub_serving asked (good_bye r t) s = hub_bad OutOfPlace s
-hub_serving asked end_of_session s = hub_bad OutOfPlace s
-hub_serving asked hub_heartbeat s = hub_bad OutOfPlace s
 hub_serving asked seat_heartbeat s = grants (Acted L.SeatHeartbeat) s
 hub_serving asked (test t) s = grants (Acted L.Test) s
+hub_serving asked v s = hub_bad OutOfPlace s
 
 abbrev pub hub_filling : ℕ → ℕ → Value → Pair → Outcome Received
-hub_filling next last (login_request v u c p session number) s = hub_bad OutOfPlace s
-hub_filling next last (login_response t session n) s = hub_bad OutOfPlace s
-hub_filling next last (sequenced n m) s = hub_bad OutOfPlace s
-hub_filling next last (unsequenced m) s = grants (Message message_place (length m)) s
-hub_filling next last synchronization_complete s = hub_bad OutOfPlace s
-hub_filling next last (retransmission_request a e) s = hub_bad OutOfPlace s
+hub_filling next last (unsequenced m) s = grants (Message message_offset (length m)) s
 hub_filling next last (logout_request r t) s = grants (Acted L.LogoutRequest) (hub_leaves Shut s)
-hub_filling next last (good_bye r t) s = hub_bad OutOfPlace s
-hub_filling next last end_of_session s = hub_bad OutOfPlace s
-hub_filling next last hub_heartbeat s = hub_bad OutOfPlace s
 hub_filling next last seat_heartbeat s = grants (Acted L.SeatHeartbeat) (beat_while_filling next last s)
 hub_filling next last (test t) s = grants (Acted L.Test) s
+hub_filling next last v s = hub_bad OutOfPlace s
 
 abbrev pub hub_acts : HubPhase → Value → Pair → Outcome Received
-hub_acts Shut v s = hub_bad OutOfPlace s
 hub_acts Waiting v s = hub_waiting v s
-hub_acts (Answering asked) v s = hub_bad OutOfPlace s
-hub_acts (Rejecting status) v s = hub_bad OutOfPlace s
 hub_acts (Serving asked next owed) v s = hub_serving asked v s
 hub_acts (Filling next last) v s = hub_filling next last v s
+hub_acts phase v s = hub_bad OutOfPlace s
 
 -- the frame is judged once these bytes are in
 abbrev pub hub_judges : Result Decoded PacketFault → List ℕ → List ℕ → LineView → Pair → Outcome Received
@@ -146,7 +115,8 @@ hub_judges (Err fault) got frame up s = hub_bad fault (hub_took got [] up s)
 abbrev pub hub_hears : List ℕ → LineView → Pair → Outcome Received
 hub_hears [] up s = grants Nothing (with_up s up)
 hub_hears (b ∷ bs) up s =
-    hub_judges (judged (hub_letters s.hub.phase) (s.hub.frame ++ (b ∷ bs))) (b ∷ bs) (s.hub.frame ++ (b ∷ bs)) up s
+    let frame : List ℕ = s.hub.frame ++ (b ∷ bs) in
+    hub_judges (judged (hub_letters s.hub.phase) frame) (b ∷ bs) frame up s
 
 -- a packet that is due, and the pair once it is written; where none is due, the pair then
 pub record Due : Type 0 where
@@ -179,8 +149,6 @@ sent_all asked next owed s =
     (cond (nat_lt beat_after s.hub.unsent) (due hub_heartbeat s) (none_due s)))
 
 abbrev pub hub_due : HubPhase → Pair → Due
-hub_due Shut s = none_due s
-hub_due Waiting s = none_due s
 hub_due (Answering asked) s =
     due (login_response Accepted s.running.log.session (count s.running.log))
     (hub_to (Serving asked (first_number asked (count s.running.log)) (owes asked (count s.running.log))) s)
@@ -193,6 +161,7 @@ hub_due (Filling next last) s =
     cond (nat_le next last && has s.running.log next)
     (due (sequenced next (nth s.running.log next)) (hub_to (Filling (next + 1) last) s))
     (none_due (hub_leaves Shut s))
+hub_due phase s = none_due s
 
 -- What a send of the hub answers, the packet that it wrote, and the pair after it.
 pub record Sending : Type 0 where
@@ -200,7 +169,7 @@ pub record Sending : Type 0 where
   pub wrote : Option Value
   pub after : Pair
 
--- the packet that is due is written if the line has the room; a smaller one is not sent in its place
+-- the packet that is due is written if the line has the room; a smaller one is not sent instead
 abbrev pub hub_posts : Option Value → Pair → Pair → Sending
 hub_posts None then s = record { answer = Ok None; wrote = None; after = then }
 hub_posts (Some v) then s =
@@ -210,11 +179,7 @@ hub_posts (Some v) then s =
 
 abbrev pub is_shut : HubPhase → Bool
 is_shut Shut = true
-is_shut Waiting = false
-is_shut (Answering asked) = false
-is_shut (Rejecting status) = false
-is_shut (Serving asked next owed) = false
-is_shut (Filling next last) = false
+is_shut phase = false
 
 abbrev pub hub_sends : Pair → Sending
 hub_sends s =

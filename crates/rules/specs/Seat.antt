@@ -8,10 +8,10 @@ use Rattle.wire.specs.declared.refusals.Refusal.TheVariants.{BadPacket, LogFull,
 use Rattle.wire.specs.declared.letters.Letter.{Letter}
 use Rattle.wire.specs.declared.letters.Letter.TheVariants as L
 use Rattle.wire.specs.declared.statuses.Status.{Status}
-use Rattle.wire.specs.declared.statuses.Status.TheVariants.{Accepted, UnknownUser, SessionUnavailable, InvalidNumber, WrongVersion, WrongProtocol, AlreadyLoggedIn}
+use Rattle.wire.specs.declared.statuses.Status.TheVariants.{Accepted}
 use Rattle.wire.specs.declared.logouts.LogoutReason.{LogoutReason}
 use Rattle.wire.specs.declared.logouts.LogoutReason.TheVariants as X
-use Rattle.packet.specs.Values.{Value, login_request, login_response, sequenced, unsequenced, synchronization_complete, retransmission_request, logout_request, good_bye, end_of_session, hub_heartbeat, seat_heartbeat, test, letter, encode}
+use Rattle.packet.specs.Values.{Value, login_response, sequenced, unsequenced, synchronization_complete, retransmission_request, logout_request, good_bye, end_of_session, hub_heartbeat, seat_heartbeat, test, letter, encode}
 use Rattle.packet.specs.Decoding.{Decoded, part, whole}
 use Rattle.line.specs.Lines.{LineView, fits}
 use Rattle.message_log.specs.Meaning.{Meaning, count, begun, added}
@@ -21,9 +21,9 @@ use Rattle.rules.specs.declared.phases.SeatPhase.TheVariants.{Apart, Asking, Liv
 use Rattle.rules.specs.declared.answers.Received.{Received}
 use Rattle.rules.specs.declared.answers.Received.TheVariants.{Nothing, Part, Acted, Message}
 use Rattle.rules.specs.State.{Pair, Outcome}
-use Rattle.rules.specs.Changes.{with_down, with_held, with_seat, grants, refuses, seat_with, seat_to, seat_writes, seat_tells, seat_took}
+use Rattle.rules.specs.Changes.{with_down, with_held, grants, refuses, seat_to, seat_writes, seat_tells, seat_took}
 use Rattle.rules.specs.Frames.{judged}
-use Rattle.rules.specs.Hub.{message_place, beat_after, Due, due, none_due}
+use Rattle.rules.specs.Hub.{message_offset, beat_after, Due, due, none_due}
 
 -- the seat says why it leaves, and is apart
 abbrev pub seat_gone : LogoutReason → Pair → Pair
@@ -34,8 +34,7 @@ seat_bad fault s = refuses (BadPacket fault) (seat_gone X.BadPacket s)
 
 abbrev pub is_apart : SeatPhase → Bool
 is_apart Apart = true
-is_apart Asking = false
-is_apart Live = false
+is_apart phase = false
 
 abbrev pub in_fetch : Option ℕ → Bool
 in_fetch None = false
@@ -64,35 +63,26 @@ next_number log = count log + 1
 abbrev pub seat_accepted : ℕ → ℕ → Pair → Outcome Received
 seat_accepted session highest s =
     cond (suits s.seat.session session)
-    (grants (Acted L.LoginResponse) (seat_with Live (s.seat.in_step || highest + 1 == s.seat.number) s.seat.status (with_held s (in_session s.held session))))
+    (grants (Acted L.LoginResponse)
+    (record s {
+      seat = record s.seat { phase = Live; in_step = s.seat.in_step || highest + 1 == s.seat.number };
+      held = in_session s.held session;
+    }))
     (seat_bad (WrongContent Field.Session) s)
 
 -- rejected: the status is kept
 abbrev pub seat_rejected : Status → Pair → Outcome Received
-seat_rejected status s = grants (Acted L.LoginResponse) (seat_with Apart s.seat.in_step (Some status) s)
+seat_rejected status s =
+    grants (Acted L.LoginResponse) (record s { seat = record s.seat { phase = Apart; status = Some status } })
 
 abbrev pub seat_answered : Status → ℕ → ℕ → Pair → Outcome Received
 seat_answered Accepted session highest s = seat_accepted session highest s
-seat_answered UnknownUser session highest s = seat_rejected UnknownUser s
-seat_answered SessionUnavailable session highest s = seat_rejected SessionUnavailable s
-seat_answered InvalidNumber session highest s = seat_rejected InvalidNumber s
-seat_answered WrongVersion session highest s = seat_rejected WrongVersion s
-seat_answered WrongProtocol session highest s = seat_rejected WrongProtocol s
-seat_answered AlreadyLoggedIn session highest s = seat_rejected AlreadyLoggedIn s
+seat_answered status session highest s = seat_rejected status s
 
 abbrev pub seat_asking : Value → Pair → Outcome Received
-seat_asking (login_request v u c p session number) s = seat_bad OutOfPlace s
 seat_asking (login_response status session highest) s = seat_answered status session highest s
-seat_asking (sequenced n m) s = seat_bad OutOfPlace s
-seat_asking (unsequenced m) s = seat_bad OutOfPlace s
-seat_asking synchronization_complete s = seat_bad OutOfPlace s
-seat_asking (retransmission_request a e) s = seat_bad OutOfPlace s
-seat_asking (logout_request r t) s = seat_bad OutOfPlace s
 seat_asking (good_bye r t) s = grants (Acted L.GoodBye) (seat_to Apart s)
-seat_asking end_of_session s = seat_bad OutOfPlace s
-seat_asking hub_heartbeat s = seat_bad OutOfPlace s
-seat_asking seat_heartbeat s = seat_bad OutOfPlace s
-seat_asking (test t) s = seat_bad OutOfPlace s
+seat_asking v s = seat_bad OutOfPlace s
 
 -- the next message is appended; a log that refuses it ends the connection
 abbrev pub seat_keeps : Result (Unit {0}) Refusal → List ℕ → Pair → Outcome Received
@@ -111,27 +101,24 @@ seat_message n m s =
     (seat_skips s.seat.fetch s))
 
 abbrev pub seat_complete : Option ℕ → Pair → Outcome Received
-seat_complete None s = grants (Acted L.SynchronizationComplete) (seat_with Live true s.seat.status s)
+seat_complete None s =
+    grants (Acted L.SynchronizationComplete) (record s { seat = record s.seat { phase = Live; in_step = true } })
 seat_complete (Some end) s = seat_bad OutOfPlace s
 
 abbrev pub seat_live : Value → Pair → Outcome Received
-seat_live (login_request v u c p session number) s = seat_bad OutOfPlace s
-seat_live (login_response status session highest) s = seat_bad OutOfPlace s
 seat_live (sequenced n m) s = seat_message n m s
-seat_live (unsequenced m) s = grants (Message message_place (length m)) s
+seat_live (unsequenced m) s = grants (Message message_offset (length m)) s
 seat_live synchronization_complete s = seat_complete s.seat.fetch s
-seat_live (retransmission_request a e) s = seat_bad OutOfPlace s
-seat_live (logout_request r t) s = seat_bad OutOfPlace s
 seat_live (good_bye r t) s = grants (Acted L.GoodBye) (seat_to Apart s)
 seat_live end_of_session s = grants (Acted L.EndOfSession) (seat_to Apart s)
 seat_live hub_heartbeat s = grants (Acted L.HubHeartbeat) s
-seat_live seat_heartbeat s = seat_bad OutOfPlace s
 seat_live (test t) s = grants (Acted L.Test) s
+seat_live v s = seat_bad OutOfPlace s
 
 abbrev pub seat_acts : SeatPhase → Value → Pair → Outcome Received
-seat_acts Apart v s = seat_bad OutOfPlace s
 seat_acts Asking v s = seat_asking v s
 seat_acts Live v s = seat_live v s
+seat_acts phase v s = seat_bad OutOfPlace s
 
 abbrev pub seat_judges : Result Decoded PacketFault → List ℕ → List ℕ → LineView → Pair → Outcome Received
 seat_judges (Ok part) got frame down s = grants Part (seat_took got frame down s)
@@ -142,27 +129,30 @@ seat_judges (Err fault) got frame down s = seat_bad fault (seat_took got [] down
 abbrev pub seat_hears : List ℕ → LineView → Pair → Outcome Received
 seat_hears [] down s = grants Nothing (with_down s down)
 seat_hears (b ∷ bs) down s =
-    seat_judges (judged (seat_letters s.seat.phase s.seat.fetch) (s.seat.frame ++ (b ∷ bs))) (b ∷ bs) (s.seat.frame ++ (b ∷ bs)) down s
+    let frame : List ℕ = s.seat.frame ++ (b ∷ bs) in
+    seat_judges (judged (seat_letters s.seat.phase s.seat.fetch) frame) (b ∷ bs) frame down s
 
 abbrev pub seat_requested : Pair → Pair
 seat_requested s =
-    with_seat s (record { phase = s.seat.phase; session = s.seat.session; number = s.seat.number; fetch = s.seat.fetch; requested = true; in_step = s.seat.in_step; status = s.seat.status; frame = s.seat.frame; unsent = s.seat.unsent; silent = s.seat.silent })
+    record s { seat = record s.seat { requested = true } }
 
 -- in a fetch the request goes out once, while something is lacking; otherwise a heartbeat may be due
 abbrev pub live_due : Option ℕ → Pair → Due
 live_due None s = cond (nat_lt beat_after s.seat.unsent) (due seat_heartbeat s) (none_due s)
 live_due (Some end) s =
     cond s.seat.requested (none_due s)
-    (cond (nat_lt (count s.held) end) (due (retransmission_request (next_number s.held) end) (seat_requested s)) (none_due s))
+    (cond (nat_lt (count s.held) end)
+    (due (retransmission_request (next_number s.held) end) (seat_requested s))
+    (none_due s))
 
 abbrev pub seat_due : SeatPhase → Pair → Due
-seat_due Apart s = none_due s
-seat_due Asking s = none_due s
 seat_due Live s = live_due s.seat.fetch s
+seat_due phase s = none_due s
 
 abbrev pub seat_posts : Option Value → Pair → Pair → Outcome (Option Letter)
 seat_posts None then s = grants None then
-seat_posts (Some v) then s = cond (fits s.up (encode v)) (grants (Some (letter v)) (seat_writes v then)) (refuses LineFull s)
+seat_posts (Some v) then s =
+    cond (fits s.up (encode v)) (grants (Some (letter v)) (seat_writes v then)) (refuses LineFull s)
 
 abbrev pub seat_sends : Pair → Outcome (Option Letter)
 seat_sends s =

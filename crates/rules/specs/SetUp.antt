@@ -30,15 +30,18 @@ first_session = 1
 abbrev pub started : Meaning → Meaning
 started log = cond (log.session == 0) (begun log first_session) log
 
--- messages are the first ones of a list
+-- whether messages are a prefix of a list
 abbrev pub first_of : List (List ℕ) → List (List ℕ) → Bool
 first_of [] ys = true
 first_of (x ∷ xs) [] = false
 first_of (x ∷ xs) (y ∷ ys) = bytes_eq x y && first_of xs ys
 
--- the seat's log is empty without a session, or a beginning of the hub's under the same session
+-- the seat's log is empty without a session, or a prefix of the hub's under the same session
 abbrev pub follows : Meaning → Meaning → Bool
-follows seat hub = cond (seat.session == 0) (length seat.messages == 0) (seat.session == hub.session && first_of seat.messages hub.messages)
+follows seat hub =
+    cond (seat.session == 0)
+    (length seat.messages == 0)
+    (seat.session == hub.session && first_of seat.messages hub.messages)
 
 -- the pair, once its account is good: both ends are without a connection
 abbrev pub made : Parts → Result Account Refusal → Result Pair Refusal
@@ -56,9 +59,12 @@ made g (Ok account) =
     })
 made g (Err refusal) = Err refusal
 
--- Short buffers are told first, then a seat's log that does not follow the hub's, then account fields. A refused
+-- Short buffers are reported first, then a seat's log that does not follow the hub's, then account fields. A refused
 -- set-up begins no session. The lines stay as they are: a connect clears them.
 abbrev pub set_up : Parts → Result Pair Refusal
 set_up g =
-    cond (too_short g.buffers.hub_frame || (too_short g.buffers.seat_frame || too_short g.buffers.out)) (Err ShortBuffer)
-    (cond (follows g.seat_log (started g.hub_log)) (made g (account_of g.user g.computer g.protocol)) (Err SizeOutOfRange))
+    cond (too_short g.buffers.hub_frame || (too_short g.buffers.seat_frame || too_short g.buffers.out))
+    (Err ShortBuffer)
+    (cond (follows g.seat_log (started g.hub_log))
+    (made g (account_of g.user g.computer g.protocol))
+    (Err SizeOutOfRange))

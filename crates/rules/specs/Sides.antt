@@ -20,7 +20,19 @@ abbrev pub no_hub : HubEnd
 no_hub = record { phase = Shut; row = None; frame = []; unsent = 0; silent = 0; waited = 0 }
 
 abbrev pub no_seat : SeatEnd
-no_seat = record { phase = Apart; session = 0; number = 0; fetch = None; requested = false; in_step = false; status = None; frame = []; unsent = 0; silent = 0 }
+no_seat =
+    record {
+      phase = Apart;
+      session = 0;
+      number = 0;
+      fetch = None;
+      requested = false;
+      in_step = false;
+      status = None;
+      frame = [];
+      unsent = 0;
+      silent = 0;
+    }
 
 abbrev pub no_account : Account
 no_account = record { user = []; computer = []; protocol = [] }
@@ -28,12 +40,32 @@ no_account = record { user = []; computer = []; protocol = [] }
 -- the hub's side: its session, its end of the connection, the lines, the rows, its frame's buffer and the outgoing one
 abbrev pub hub_side : Running → HubEnd → LineView → LineView → List Row → List ℕ → List ℕ → Pair
 hub_side running hub up down rows frame out =
-    record { running = running; hub = hub; seat = no_seat; held = no_log; up = up; down = down; rows = rows; account = no_account; buffers = record { hub_frame = frame; seat_frame = []; out = out } }
+    record {
+      running = running;
+      hub = hub;
+      seat = no_seat;
+      held = no_log;
+      up = up;
+      down = down;
+      rows = rows;
+      account = no_account;
+      buffers = record { hub_frame = frame; seat_frame = []; out = out };
+    }
 
 -- the seat's side: its end of the connection, its log, the lines, its account, its frame's buffer and the outgoing one
 abbrev pub seat_side : SeatEnd → Meaning → LineView → LineView → Account → List ℕ → List ℕ → Pair
 seat_side seat held up down account frame out =
-    record { running = record { log = no_log; finished = false }; hub = no_hub; seat = seat; held = held; up = up; down = down; rows = []; account = account; buffers = record { hub_frame = []; seat_frame = frame; out = out } }
+    record {
+      running = record { log = no_log; finished = false };
+      hub = no_hub;
+      seat = seat;
+      held = held;
+      up = up;
+      down = down;
+      rows = [];
+      account = account;
+      buffers = record { hub_frame = []; seat_frame = frame; out = out };
+    }
 
 -- the hub's side of a pair, and a pair whose hub's side is that of another
 abbrev pub hub_side_of : Pair → Pair
@@ -41,27 +73,52 @@ hub_side_of s = hub_side s.running s.hub s.up s.down s.rows s.buffers.hub_frame 
 
 abbrev pub with_hub_side : Pair → Pair → Pair
 with_hub_side s t =
-    record { running = t.running; hub = t.hub; seat = s.seat; held = s.held; up = t.up; down = t.down; rows = t.rows; account = s.account; buffers = record { hub_frame = t.buffers.hub_frame; seat_frame = s.buffers.seat_frame; out = t.buffers.out } }
+    record s {
+      running = t.running;
+      hub = t.hub;
+      up = t.up;
+      down = t.down;
+      rows = t.rows;
+      buffers = record s.buffers { hub_frame = t.buffers.hub_frame; out = t.buffers.out };
+    }
 
 abbrev pub seat_side_of : Pair → Pair
 seat_side_of s = seat_side s.seat s.held s.up s.down s.account s.buffers.seat_frame s.buffers.out
 
 abbrev pub with_seat_side : Pair → Pair → Pair
 with_seat_side s t =
-    record { running = s.running; hub = s.hub; seat = t.seat; held = t.held; up = t.up; down = t.down; rows = s.rows; account = t.account; buffers = record { hub_frame = s.buffers.hub_frame; seat_frame = t.buffers.seat_frame; out = t.buffers.out } }
+    record s {
+      seat = t.seat;
+      held = t.held;
+      up = t.up;
+      down = t.down;
+      account = t.account;
+      buffers = record s.buffers { seat_frame = t.buffers.seat_frame; out = t.buffers.out };
+    }
 
 -- the same of what needs neither the up line nor the frame: they are as they were
 abbrev pub with_hub_core : Pair → Pair → Pair
 with_hub_core s t =
-    record { running = t.running; hub = record { phase = t.hub.phase; row = t.hub.row; frame = s.hub.frame; unsent = t.hub.unsent; silent = t.hub.silent; waited = t.hub.waited }; seat = s.seat; held = s.held; up = s.up; down = t.down; rows = t.rows; account = s.account; buffers = record { hub_frame = s.buffers.hub_frame; seat_frame = s.buffers.seat_frame; out = t.buffers.out } }
+    record s {
+      running = t.running;
+      hub = record t.hub { frame = s.hub.frame };
+      down = t.down;
+      rows = t.rows;
+      buffers = record s.buffers { out = t.buffers.out };
+    }
 
 abbrev pub with_seat_core : Pair → Pair → Pair
 with_seat_core s t =
-    record { running = s.running; hub = s.hub; seat = record { phase = t.seat.phase; session = t.seat.session; number = t.seat.number; fetch = t.seat.fetch; requested = t.seat.requested; in_step = t.seat.in_step; status = t.seat.status; frame = s.seat.frame; unsent = t.seat.unsent; silent = t.seat.silent }; held = t.held; up = t.up; down = s.down; rows = s.rows; account = s.account; buffers = record { hub_frame = s.buffers.hub_frame; seat_frame = s.buffers.seat_frame; out = t.buffers.out } }
+    record s {
+      seat = record t.seat { frame = s.seat.frame };
+      held = t.held;
+      up = t.up;
+      buffers = record s.buffers { out = t.buffers.out };
+    }
 
 -- an outcome on one side, as that of the pair
 abbrev pub on_side : {R : Type 0} → (Pair → Pair) → Outcome R → Outcome R
-on_side f o = record { answer = o.answer; after = f o.after }
+on_side f o = record o { after = f o.after }
 
 abbrev pub on_core : (Pair → Pair) → Sending → Sending
-on_core f x = record { answer = x.answer; wrote = x.wrote; after = f x.after }
+on_core f x = record x { after = f x.after }

@@ -10,9 +10,9 @@ pub enum Received {
     Part,
     /// A packet with this letter was acted on.
     Acted(Letter),
-    /// An unsequenced packet was read: its message stands in the frame, at this place, this long.
+    /// An unsequenced packet was read: its message stands in the frame, at this offset, this long.
     // Two numbers and no slice: the frame is lent anew to each call, so no answer borrows from it.
-    Message { place: usize, length: usize },
+    Message { offset: usize, length: usize },
 }
 
 /// What an end did with what waited for it.

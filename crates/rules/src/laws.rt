@@ -25,8 +25,8 @@ pub fn buffers_never_shrink()
     ensures { BuffersLast }
 {}
 
-/// A frame stays a part of a packet, which lacks something and has its place in a buffer of the longest packet. So
-/// the buffer of a frame, if it is no shorter than that, keeps its length.
+/// A frame stays a part of a packet, which lacks something and fits in a buffer of the longest packet. So the
+/// buffer of a frame, if it is no shorter than that, keeps its length.
 pub fn frames_stay_parts()
     ensures parts { FramesStayParts }
     ensures lacking { PartsLack }

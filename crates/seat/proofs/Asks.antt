@@ -14,7 +14,7 @@ use Rattle.rules.specs.declared.phases.How.{How}
 use Rattle.rules.specs.declared.phases.How.TheVariants.{Join, Anew, Fetch}
 use Rattle.rules.specs.declared.phases.SeatPhase.TheVariants.{Apart, Live}
 use Rattle.rules.specs.State.{Account, Pair}
-use Rattle.rules.specs.Changes.{refuses, with_seat, seat_to, seat_tells, seat_writes}
+use Rattle.rules.specs.Changes.{refuses, seat_to, seat_tells, seat_writes}
 use Rattle.rules.specs.Calls.{Done, done, connect, connected, asking, is_live, leave}
 use Rattle.rules.specs.Rounds.{too_short}
 use Rattle.rules.specs.Seat.{is_apart, seat_gone}
@@ -75,20 +75,19 @@ asks_refused how s e a h k =
 -- with frame and counts cleared
 abbrev pub emptied : Pair → Pair
 emptied s =
-    with_seat s (record { phase = s.seat.phase; session = s.seat.session; number = s.seat.number; fetch = s.seat.fetch; requested = s.seat.requested; in_step = s.seat.in_step; status = s.seat.status; frame = []; unsent = 0; silent = 0 })
+    record s { seat = record s.seat { frame = []; unsent = 0; silent = 0 } }
 
 -- the seat is new, and has written its login on the cleared line
-pub asks_granted : (how : How) (seat begun written : Seat) (log : Meaning) (up cleaned up' down : LineView) (account : Account) (frame out out' : List ℕ) (x : Unit {0}) (session number : ℕ) → session ≡ begun.state.session → number ≡ begun.state.number →
+pub asks_granted : (how : How) (seat begun written : Seat) (log : Meaning) (up cleaned up' down : LineView) (account : Account) (frame out out' : List ℕ) (x : Unit {0}) →
     too_short out ≡ false → cleaned ≡ cleared up → (connect how (side_of seat log up (cleared down) account frame out)).answer ≡ Ok x →
     side_of begun log cleaned (cleared down) account frame out ≡ asking how (emptied (side_of seat log cleaned (cleared down) account frame out)) →
-    fits cleaned (encode (login_request spoken_version account.user account.computer account.protocol session number)) ≡ true →
-    side_of written log up' (cleared down) account frame out' ≡ seat_tells (login_request spoken_version account.user account.computer account.protocol session number) (side_of begun log cleaned (cleared down) account frame out) →
+    fits cleaned (encode (login_request spoken_version account.user account.computer account.protocol begun.state.session begun.state.number)) ≡ true →
+    side_of written log up' (cleared down) account frame out' ≡ seat_tells (login_request spoken_version account.user account.computer account.protocol begun.state.session begun.state.number) (side_of begun log cleaned (cleared down) account frame out) →
     answered (Ok tt) (side_of written log up' (cleared down) account frame out') ≡ unless_short (asks how) (side_of seat log up (cleared down) account frame out)
-asks_granted how seat begun written log up cleaned up' down account frame out out' x session number es en a c h b f w =
+asks_granted how seat begun written log up cleaned up' down account frame out out' x a c h b f w =
     let s : Pair = side_of seat log up (cleared down) account frame out in
     let login : Pair → Pair = λ t. seat_writes (login_request spoken_version account.user account.computer account.protocol t.seat.session t.seat.number) t in
-    let asked : ℕ → ℕ → Pair = λ i k. seat_writes (login_request spoken_version account.user account.computer account.protocol i k) (side_of begun log cleaned (cleared down) account frame out) in
     let t : side_of written log up' (cleared down) account frame out' ≡ seat_side_of (connected how s) =
-    w ∙ cond-true _ _ _ f ∙ ap (λ (i : ℕ). asked i number) es ∙ ap (λ (i : ℕ). asked begun.state.session i) en ∙ ap login b ∙ ap (λ (u : LineView). login (asking how (emptied (side_of seat log u (cleared down) account frame out)))) c in
+    w ∙ cond-true _ _ _ f ∙ ap login b ∙ ap (λ (u : LineView). login (asking how (emptied (side_of seat log u (cleared down) account frame out)))) c in
     ap (λ (y : Pair). answered (Ok tt) y) t
     ∙ sym (cond-false _ _ _ a ∙ ap (λ (o : Done). answered o.answer (seat_side_of o.after)) (connect_granted how s x h))

@@ -22,7 +22,7 @@ use Rattle.seat.specs.Receives.{hears}
 
 -- the seat once it took bytes: so many stand in its frame
 abbrev pub taken : ℕ → Seat → Seat
-taken m s = record { state = s.state; filled = m; unsent = s.unsent; silent = 0 }
+taken m s = record s { filled = m; silent = 0 }
 
 took : (seat : Seat) (log : Meaning) (up v w : LineView) (account : Account) (buf buf' out g frame : List ℕ) (m : ℕ) →
     buf' ≡ laid buf (length (take seat.filled buf)) g → take m buf' ≡ frame →
@@ -32,16 +32,16 @@ took seat log up v w account buf buf' out g frame m b f =
     ap (λ (x : List ℕ). side x buf') f ∙ ap (λ (x : List ℕ). side frame x) b
 
 -- what a receive comes to where this is said of the frame: the seat with its frame empty, and with it kept
-abbrev pub telling : Result Decoded PacketFault → SeatPhase → Pair → Pair → Outcome Received
-telling (Ok part) phase empty kept = grants Part kept
-telling (Ok (whole v)) phase empty kept = seat_acts phase v empty
-telling (Err fault) phase empty kept = seat_bad fault empty
+abbrev pub comes_to : Result Decoded PacketFault → SeatPhase → Pair → Pair → Outcome Received
+comes_to (Ok part) phase empty kept = grants Part kept
+comes_to (Ok (whole v)) phase empty kept = seat_acts phase v empty
+comes_to (Err fault) phase empty kept = seat_bad fault empty
 
-tells_judges : (a : Result Decoded PacketFault) (g frame : List ℕ) (w : LineView) (s empty kept : Pair) → empty ≡ seat_took g [] w s → kept ≡ seat_took g frame w s →
-    telling a s.seat.phase empty kept ≡ seat_judges a g frame w s
-tells_judges (Ok part) g frame w s empty kept e k = ap (λ (x : Pair). grants {R = Received} Part x) k
-tells_judges (Ok (whole v)) g frame w s empty kept e k = ap (seat_acts s.seat.phase v) e
-tells_judges (Err fault) g frame w s empty kept e k = ap (seat_bad fault) e
+comes_to_judges : (a : Result Decoded PacketFault) (g frame : List ℕ) (w : LineView) (s empty kept : Pair) → empty ≡ seat_took g [] w s → kept ≡ seat_took g frame w s →
+    comes_to a s.seat.phase empty kept ≡ seat_judges a g frame w s
+comes_to_judges (Ok part) g frame w s empty kept e k = ap (λ (x : Pair). grants {R = Received} Part x) k
+comes_to_judges (Ok (whole v)) g frame w s empty kept e k = ap (seat_acts s.seat.phase v) e
+comes_to_judges (Err fault) g frame w s empty kept e k = ap (seat_bad fault) e
 
 hears_some : (g : List ℕ) (w : LineView) (s : Pair) → (length g ≡ 0 → ⊥) →
     seat_hears g w s ≡ seat_judges (judged (seat_letters s.seat.phase s.seat.fetch) (s.seat.frame ++ g)) g (s.seat.frame ++ g) w s
@@ -63,7 +63,7 @@ hears_none seat log up v w account buf buf' out k h f z =
 pub hears_judged : (seat : Seat) (log : Meaning) (up v w : LineView) (account : Account) (buf buf' out : List ℕ) (k : ℕ) (a : Result Decoded PacketFault) →
     packet_limit ≤ length buf → Filled v buf seat.filled (wanted seat.filled buf) k w buf' → (k ≡ 0 → ⊥) →
     a ≡ judged (seat_letters seat.state.phase seat.state.fetch) (take (seat.filled + k - 0) buf') →
-    telling a seat.state.phase (side_of (taken 0 seat) log up w account buf' out) (side_of (taken (seat.filled + k) seat) log up w account buf' out)
+    comes_to a seat.state.phase (side_of (taken 0 seat) log up w account buf' out) (side_of (taken (seat.filled + k) seat) log up w account buf' out)
     ≡ hears (side_of seat log up v account buf out) w.room
 hears_judged seat log up v w account buf buf' out k a h f z j =
     let n : ℕ = seat.filled in
@@ -72,7 +72,7 @@ hears_judged seat log up v w account buf buf' out k a h f z j =
     let s : Pair = side_of seat log up v account buf out in
     let says : List ℕ → Result Decoded PacketFault = judged (seat_letters seat.state.phase seat.state.fetch) in
     let q = came v w buf buf' n k h f z in
-    tells_judges a g (fr ++ g) w s _ _ (took seat log up v w account buf buf' out g [] 0 q.buffer refl) (took seat log up v w account buf buf' out g (fr ++ g) (n + k) q.buffer q.frame)
+    comes_to_judges a g (fr ++ g) w s _ _ (took seat log up v w account buf buf' out g [] 0 q.buffer refl) (took seat log up v w account buf buf' out g (fr ++ g) (n + k) q.buffer q.frame)
     ∙ ap (λ (x : Result Decoded PacketFault). seat_judges x g (fr ++ g) w s) (j ∙ ap (λ (i : ℕ). says (take i buf')) (omega arith) ∙ ap says q.frame)
     ∙ sym (hears_some g w s q.some)
     ∙ ap (λ (x : LineView). seat_hears g x s) q.line

@@ -10,9 +10,9 @@ use Rattle.rules.specs.Changes.{grants, refuses, with_seat, seat_writes}
 use Rattle.rules.specs.Hub as Hub
 use Rattle.rules.specs.Rounds.{too_short}
 use Rattle.rules.specs.Seat.{is_apart, seat_due, seat_posts, seat_sends}
-use Rattle.seat.specs.declared.dues.Due.{Due}
+use Rattle.seat.specs.declared.dues.DuePacket.{DuePacket}
 use Rattle.seat.specs.declared.state.SeatState.{SeatState}
-use Rattle.seat.specs.State.{stands_in, due_of}
+use Rattle.seat.specs.State.{with_state, due_of}
 use Rattle.framing.specs.Calling.{unless_short}
 
 -- with the seat's fetch requested, or not
@@ -34,8 +34,8 @@ pub sends_refused : (s then : Pair) (v : Value) → too_short s.buffers.out ≡ 
 sends_refused s then v a b d f = sends_due s then v a b d ∙ cond-false _ _ _ f
 
 -- nothing is due
-pub sends_none : (state : SeatState) (log : Meaning) (s : Pair) (r : Option Due) → ((d : Due) → r ≡ Some d → ⊥) → too_short s.buffers.out ≡ false → is_apart s.seat.phase ≡ false →
-    stands_in state log s ≡ s → due_of r state log s ≡ seat_due s.seat.phase s → grants None s ≡ unless_short seat_sends s
+pub sends_none : (state : SeatState) (log : Meaning) (s : Pair) (r : Option DuePacket) → ((d : DuePacket) → r ≡ Some d → ⊥) → too_short s.buffers.out ≡ false → is_apart s.seat.phase ≡ false →
+    with_state state log s ≡ s → due_of r state log s ≡ seat_due s.seat.phase s → grants None s ≡ unless_short seat_sends s
 sends_none state log s None n a b e d =
     sym (cond-false _ _ _ a ∙ cond-false _ _ _ b ∙ ap (λ (x : Hub.Due). seat_posts x.packet x.then s) (sym d) ∙ ap (λ (x : Pair). grants None x) e)
 sends_none state log s (Some x) n a b e d = absurd (n x refl)

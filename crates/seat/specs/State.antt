@@ -7,42 +7,50 @@ use Rattle.rules.specs.declared.phases.SeatPhase.TheVariants.{Apart}
 use Rattle.rules.specs.State.{Pair}
 use Rattle.rules.specs.Hub as Hub
 use Rattle.seat.specs.declared.state.SeatState.{SeatState}
-use Rattle.seat.specs.declared.dues.Due.{Due}
+use Rattle.seat.specs.declared.dues.DuePacket.{DuePacket}
 
 -- with no connection, and nothing asked for
 abbrev pub apart : SeatState
-apart = record { phase = Apart; session = 0; number = 0; fetch = None; requested = false; in_step = false; status = None }
+apart =
+    record {
+      phase = Apart;
+      session = 0;
+      number = 0;
+      fetch = None;
+      requested = false;
+      in_step = false;
+      status = None;
+    }
 
 -- a pair whose seat stands so and has this log: its frame, its counts and all else are those of the pair
-abbrev pub stands_in : SeatState → Meaning → Pair → Pair
-stands_in s log p =
-    record {
-      running = p.running;
-      hub = p.hub;
-      seat = record { phase = s.phase; session = s.session; number = s.number; fetch = s.fetch; requested = s.requested; in_step = s.in_step; status = s.status; frame = p.seat.frame; unsent = p.seat.unsent; silent = p.seat.silent };
+abbrev pub with_state : SeatState → Meaning → Pair → Pair
+with_state s log p =
+    record p {
+      seat = record p.seat {
+        phase = s.phase;
+        session = s.session;
+        number = s.number;
+        fetch = s.fetch;
+        requested = s.requested;
+        in_step = s.in_step;
+        status = s.status;
+      };
       held = log;
-      up = p.up;
-      down = p.down;
-      rows = p.rows;
-      account = p.account;
-      buffers = p.buffers;
     }
 
 -- with its connection ended, or with its fetch requested or not
 abbrev pub parted : SeatState → SeatState
-parted s =
-    record { phase = Apart; session = s.session; number = s.number; fetch = s.fetch; requested = s.requested; in_step = s.in_step; status = s.status }
+parted s = record s { phase = Apart }
 
 abbrev pub with_requested : Bool → SeatState → SeatState
-with_requested requested s =
-    record { phase = s.phase; session = s.session; number = s.number; fetch = s.fetch; requested = requested; in_step = s.in_step; status = s.status }
+with_requested requested s = record s { requested = requested }
 
 -- what is due, in the words of the rules
-abbrev pub due_of : Option Due → SeatState → Meaning → Pair → Hub.Due
-due_of None s log p = Hub.none_due (stands_in s log p)
-due_of (Some d) s log p = Hub.due (value_of d.packet) (stands_in (with_requested d.requested s) log p)
+abbrev pub due_of : Option DuePacket → SeatState → Meaning → Pair → Hub.Due
+due_of None s log p = Hub.none_due (with_state s log p)
+due_of (Some d) s log p = Hub.due (value_of d.packet) (with_state (with_requested d.requested s) log p)
 
 -- it can be written
-abbrev pub Writable : Option Due → Type 0
+abbrev pub Writable : Option DuePacket → Type 0
 Writable None = Unit {0}
 Writable (Some d) = Valid (value_of d.packet)

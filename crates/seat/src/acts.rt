@@ -6,10 +6,11 @@ ghost use Rattle.message_log.specs.Calls.{takes, settled};
 ghost use Rattle.packet.specs.Meanings.{value_of};
 ghost use Rattle.rules.specs.State.{Pair};
 ghost use Rattle.rules.specs.Seat.{seat_accepted, seat_acts, seat_message, suits, in_session};
-ghost use Rattle.seat.specs.State.{stands_in};
+ghost use Rattle.seat.specs.State.{with_state};
 ghost use Rattle.seat.specs.Acts.{closing, kept};
 
 use crate::state::SeatState;
+use framing::MESSAGE_OFFSET;
 use message_log::Log;
 use packet::Packet;
 use rules::{Received, SeatPhase};
@@ -19,8 +20,11 @@ impl SeatState {
     /// Acts on a packet, by the phase. What is wrong with the packet, and that the log refuses the next message, is
     /// passed on with nothing changed.
     #[inline(always)]
-    pub fn act<G: Log>(&mut self, packet: Packet<'_>, log: &mut G) -> Result<Received, Fault>
-        ensures { (p : Pair) → closing result (stands_in self.new (G.Log.view log.new) p) ≡ seat_acts self.old.phase (value_of packet.entry) (stands_in self.old (G.Log.view log.old) p) }
+    pub(crate) fn act<G: Log>(&mut self, packet: Packet<'_>, log: &mut G) -> Result<Received, Fault>
+        ensures { (p : Pair) →
+            let before = with_state self.old (G.Log.view log.old) p in
+            let after = with_state self.new (G.Log.view log.new) p in
+            closing result after ≡ seat_acts self.old.phase (value_of packet.entry) before }
     {
         match (self.phase, packet) {
             (
@@ -44,7 +48,7 @@ impl SeatState {
                 number, message, log,
             ),
             (SeatPhase::Live, Packet::Unsequenced { message }) => Ok(Received::Message {
-                place: 3,
+                offset: MESSAGE_OFFSET,
                 length: message.len(),
             }),
             (SeatPhase::Live, Packet::SynchronizationComplete) if self.fetch.is_none() => {
@@ -63,7 +67,10 @@ impl SeatState {
 
     // Its login is accepted: it is live, and in step if the hub's next number is the one that it asked for.
     fn accept<G: Log>(&mut self, session: u8, highest: u64, log: &mut G) -> Result<Received, Fault>
-        ensures { (p : Pair) → closing result (stands_in self.new (G.Log.view log.new) p) ≡ seat_accepted session highest (stands_in self.old (G.Log.view log.old) p) }
+        ensures { (p : Pair) →
+            let before = with_state self.old (G.Log.view log.old) p in
+            let after = with_state self.new (G.Log.view log.new) p in
+            closing result after ≡ seat_accepted session highest before }
     {
         if !is_suited(self.session, session) {
             return Err(Fault::Packet(PacketFault::WrongContent(Field::Session)));
@@ -77,7 +84,10 @@ impl SeatState {
     // A message came: the next one goes to the log, and one that is held is passed over. So is, in a fetch, one with
     // a number above the next.
     fn store<G: Log>(&self, number: u64, message: &[u8], log: &mut G) -> Result<Received, Fault>
-        ensures { (p : Pair) → closing result (stands_in self.now (G.Log.view log.new) p) ≡ seat_message number message.now (stands_in self.now (G.Log.view log.old) p) }
+        ensures { (p : Pair) →
+            let before = with_state self.now (G.Log.view log.old) p in
+            let after = with_state self.now (G.Log.view log.new) p in
+            closing result after ≡ seat_message number message.now before }
     {
         let next = log.count() as u64 + 1;
         if number == next {
@@ -92,7 +102,9 @@ impl SeatState {
 // Appends the next message to the log.
 fn keep<G: Log>(message: &[u8], log: &mut G) -> Result<(), LogFault>
     ensures answer { result ≡ kept (takes (G.Log.view log.old) (length message.now)) }
-    ensures after { G.Log.view log.new ≡ settled (takes (G.Log.view log.old) (length message.now)) (added (G.Log.view log.old) message.now) (G.Log.view log.old) }
+    ensures after { let before = G.Log.view log.old in
+        let after = G.Log.view log.new in
+        after ≡ settled (takes before (length message.now)) (added before message.now) before }
 {
     log.append(message).map_err(|_| LogFault::Full)
 }

@@ -8,7 +8,7 @@ ghost use Rattle.rules.specs.Calls.{cut, leave, counted, seat_timed};
 ghost use Rattle.rules.specs.Sides.{seat_side_of};
 ghost use Rattle.framing.specs.Calling.{answered, unless_short};
 ghost use Rattle.seat.specs.Ends.{side_of};
-ghost use Rattle.seat.specs.Asks.{fields_of, asks, says};
+ghost use Rattle.seat.specs.Asks.{asks, says};
 
 use crate::seats::Seat;
 use crate::sending::logout;
@@ -32,7 +32,13 @@ impl Seat {
         up: &mut U,
         out: &mut [u8],
     ) -> Result<(), Refusal>
-        ensures { (down : LineView) (frame : List ℕ) → answered result (side_of self.new (G.Log.view log.now) (U.Line.view up.new) (cleared down) (fields_of account.now) frame out.new) ≡ unless_short (asks how) (side_of self.old (G.Log.view log.now) (U.Line.view up.old) (cleared down) (fields_of account.now) frame out.old) }
+        ensures { (down : LineView) (frame : List ℕ) →
+            let held = G.Log.view log.now in
+            let up_before = U.Line.view up.old in
+            let up_after = U.Line.view up.new in
+            let before = side_of self.old held up_before (cleared down) account.now frame out.old in
+            let after = side_of self.new held up_after (cleared down) account.now frame out.new in
+            answered result after ≡ unless_short (asks how) before }
     {
         if out.len() < PACKET_LIMIT {
             return Err(Refusal::ShortBuffer);
@@ -51,8 +57,8 @@ impl Seat {
             user: &account.user,
             computer: &account.computer,
             protocol: &account.protocol,
-            session: self.state.session(),
-            number: self.state.number(),
+            session: self.state.session,
+            number: self.state.number,
         };
         self.write(Packet::LoginRequest(login), up, out)
     }
@@ -65,7 +71,10 @@ impl Seat {
         up: &mut U,
         out: &mut [u8],
     ) -> Result<(), Refusal>
-        ensures { (log : Meaning) (down : LineView) (account : Fields) (frame : List ℕ) → answered result (side_of self.new log (U.Line.view up.new) down account frame out.new) ≡ says message.now (side_of self.old log (U.Line.view up.old) down account frame out.old) }
+        ensures { (log : Meaning) (down : LineView) (account : Fields) (frame : List ℕ) →
+            let before = side_of self.old log (U.Line.view up.old) down account frame out.old in
+            let after = side_of self.new log (U.Line.view up.new) down account frame out.new in
+            answered result after ≡ says message.now before }
     {
         if message.len() > MESSAGE_LIMIT {
             return Err(Refusal::MessageTooLong);
@@ -77,7 +86,7 @@ impl Seat {
         if !has_room(packet, up) {
             return Err(Refusal::LineFull);
         }
-        match self.state.phase() {
+        match self.state.phase {
             SeatPhase::Live => self.write(packet, up, out),
             SeatPhase::Apart | SeatPhase::Asking => Err(Refusal::WrongPhase),
         }
@@ -86,7 +95,10 @@ impl Seat {
     /// Leaves: says that it is done, and is apart. Refuses by `ShortBuffer`, `LineFull`, and where it is apart
     /// already by `WrongPhase`, in this order; a refusal changes nothing.
     pub fn leave<U: Line>(&mut self, up: &mut U, out: &mut [u8]) -> Result<(), Refusal>
-        ensures { (log : Meaning) (down : LineView) (account : Fields) (frame : List ℕ) → answered result (side_of self.new log (U.Line.view up.new) down account frame out.new) ≡ unless_short leave (side_of self.old log (U.Line.view up.old) down account frame out.old) }
+        ensures { (log : Meaning) (down : LineView) (account : Fields) (frame : List ℕ) →
+            let before = side_of self.old log (U.Line.view up.old) down account frame out.old in
+            let after = side_of self.new log (U.Line.view up.new) down account frame out.new in
+            answered result after ≡ unless_short leave before }
     {
         if out.len() < PACKET_LIMIT {
             return Err(Refusal::ShortBuffer);
@@ -103,7 +115,10 @@ impl Seat {
 
     /// Its connection is cut, and the lines are cleared: it is apart, with frame and counts cleared.
     pub fn cut(&mut self)
-        ensures { (log : Meaning) (up down : LineView) (account : Fields) (frame out : List ℕ) → side_of self.new log (cleared up) (cleared down) account frame out ≡ seat_side_of (cut (side_of self.old log up down account frame out)) }
+        ensures { (log : Meaning) (up down : LineView) (account : Fields) (frame out : List ℕ) →
+            let before = side_of self.old log up down account frame out in
+            let after = side_of self.new log (cleared up) (cleared down) account frame out in
+            after ≡ seat_side_of (cut before) }
     {
         self.state.part();
         self.filled = 0;
@@ -113,7 +128,10 @@ impl Seat {
 
     /// A tick passes: the counts go up, and a connection that was silent for too long ends.
     pub fn tick(&mut self)
-        ensures { (log : Meaning) (up down : LineView) (account : Fields) (frame out : List ℕ) → side_of self.new log up down account frame out ≡ seat_side_of (seat_timed (counted (side_of self.old log up down account frame out))) }
+        ensures { (log : Meaning) (up down : LineView) (account : Fields) (frame out : List ℕ) →
+            let before = side_of self.old log up down account frame out in
+            let after = side_of self.new log up down account frame out in
+            after ≡ seat_side_of (seat_timed (counted before)) }
     {
         self.unsent = one_more(self.unsent);
         self.silent = one_more(self.silent);

@@ -9,7 +9,7 @@ ghost use Rattle.rules.specs.Frames.{lack, judged, Free};
 ghost use Rattle.rules.specs.Seat.{seat_letters};
 ghost use Rattle.framing.specs.Calling.{Fewer};
 ghost use Rattle.seat.specs.Ends.{side_of};
-ghost use Rattle.seat.specs.Acts.{closing};
+ghost use Rattle.seat.specs.Acts.{closing, reason_for};
 ghost use Rattle.seat.specs.Receives.{Receives, hears};
 
 use crate::seats::Seat;
@@ -32,7 +32,14 @@ impl Seat {
         frame: &mut [u8],
         out: &mut [u8],
     ) -> Result<Received, Refusal>
-        ensures { (account : Account) → Receives (side_of self.old (G.Log.view log.old) (U.Line.view up.old) (D.Line.view down.old) account frame.old out.old) result (side_of self.new (G.Log.view log.new) (U.Line.view up.new) (D.Line.view down.new) account frame.new out.new) }
+        ensures { (account : Account) →
+            let held_before = G.Log.view log.old in
+            let held_after = G.Log.view log.new in
+            let before = side_of self.old held_before (U.Line.view up.old) (D.Line.view down.old)
+            account frame.old out.old in
+            let after = side_of self.new held_after (U.Line.view up.new) (D.Line.view down.new)
+            account frame.new out.new in
+            Receives before result after }
     {
         if frame.len() < PACKET_LIMIT {
             return Err(Refusal::ShortBuffer);
@@ -46,13 +53,9 @@ impl Seat {
         // No `?`: a fault ends the connection here.
         match self.hear(log, down, frame) {
             Ok(received) => Ok(received),
-            Err(Fault::Packet(fault)) => {
-                self.part(LogoutReason::BadPacket, up, out);
-                Err(Refusal::BadPacket(fault))
-            }
-            Err(Fault::Log(LogFault::Full)) => {
-                self.part(LogoutReason::Terminating, up, out);
-                Err(Refusal::LogFull)
+            Err(fault) => {
+                self.part(parting_reason(fault), up, out);
+                Err(fault.into())
             }
         }
     }
@@ -66,8 +69,16 @@ impl Seat {
         frame: &mut [u8],
     ) -> Result<Received, Fault>
         requires { packet_limit ≤ length frame.old }
-        ensures outcome { (up : LineView) (account : Account) (out : List ℕ) → closing result (side_of self.new (G.Log.view log.new) up (D.Line.view down.new) account frame.new out) ≡ hears (side_of self.old (G.Log.view log.old) up (D.Line.view down.old) account frame.old out) (D.Line.view down.new).room }
-        ensures free { Free (D.Line.view down.old) (lack (take self.old.filled frame.old)) (D.Line.view down.new).room }
+        ensures outcome { (up : LineView) (account : Account) (out : List ℕ) →
+            let held_before = G.Log.view log.old in
+            let held_after = G.Log.view log.new in
+            let down_before = D.Line.view down.old in
+            let down_after = D.Line.view down.new in
+            let before = side_of self.old held_before up down_before account frame.old out in
+            let after = side_of self.new held_after up down_after account frame.new out in
+            closing result after ≡ hears before down_after.room }
+        ensures free { let lacking = lack (take self.old.filled frame.old) in
+            Free (D.Line.view down.old) lacking (D.Line.view down.new).room }
         ensures fewer { Fewer result (D.Line.view down.old) (D.Line.view down.new) }
     {
         let count = fill(down, frame, self.filled);
@@ -86,14 +97,25 @@ impl Seat {
         }
     }
 
-    // What it says of its frame. Most takes leave a part: it is told first, and no letters are looked up for it.
+    // What it says of its frame. Most takes leave a part, and no packet is read then.
     #[inline(always)]
     fn judge<'a>(&self, bytes: &'a [u8]) -> Result<Option<Packet<'a>>, PacketFault>
-        ensures { answer_of result ≡ judged (seat_letters self.now.state.phase self.now.state.fetch) bytes.now }
+        ensures { let letters = seat_letters self.now.state.phase self.now.state.fetch in
+            answer_of result ≡ judged letters bytes.now }
     {
         if is_part(bytes) {
             return Ok(None);
         }
         judge(bytes, self.state.letters())
+    }
+}
+
+// Why a seat leaves that met this fault.
+fn parting_reason(fault: Fault) -> LogoutReason
+    ensures { result ≡ reason_for fault }
+{
+    match fault {
+        Fault::Packet(_) => LogoutReason::BadPacket,
+        Fault::Log(LogFault::Full) => LogoutReason::Terminating,
     }
 }

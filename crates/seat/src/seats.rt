@@ -37,20 +37,20 @@ impl Seat {
     pub fn phase(&self) -> SeatPhase
         ensures { (frame : List ℕ) → result ≡ (end_of self.now frame).phase }
     {
-        self.state.phase()
+        self.state.phase
     }
 
     /// Whether it has reported itself in step since the connect: that it holds all that was published.
     pub fn in_step(&self) -> bool
         ensures { (frame : List ℕ) → result ≡ (end_of self.now frame).in_step }
     {
-        self.state.in_step()
+        self.state.in_step
     }
 
     /// The status that rejected its login, if one did.
     pub fn status(&self) -> Option<Status>
         ensures { (frame : List ℕ) → result ≡ (end_of self.now frame).status }
     {
-        self.state.status()
+        self.state.status
     }
 }

@@ -30,7 +30,11 @@ impl Seat {
         up: &mut U,
         out: &mut [u8],
     ) -> Result<Option<Letter>, Refusal>
-        ensures { (down : LineView) (account : Account) (frame : List ℕ) → answered result (side_of self.new (G.Log.view log.now) (U.Line.view up.new) down account frame out.new) ≡ unless_short seat_sends (side_of self.old (G.Log.view log.now) (U.Line.view up.old) down account frame out.old) }
+        ensures { (down : LineView) (account : Account) (frame : List ℕ) →
+            let held = G.Log.view log.now in
+            let before = side_of self.old held (U.Line.view up.old) down account frame out.old in
+            let after = side_of self.new held (U.Line.view up.new) down account frame out.new in
+            answered result after ≡ unless_short seat_sends before }
     {
         if out.len() < PACKET_LIMIT {
             return Err(Refusal::ShortBuffer);
@@ -57,7 +61,10 @@ impl Seat {
         requires valid { Valid (value_of packet) }
         requires long { packet_limit ≤ length out.old }
         ensures answer { result ≡ roomy (value_of packet.entry) (U.Line.view up.old) }
-        ensures after { (log : Meaning) (down : LineView) (account : Account) (frame : List ℕ) → side_of self.new log (U.Line.view up.new) down account frame out.new ≡ seat_tells (value_of packet.entry) (side_of self.old log (U.Line.view up.old) down account frame out.old) }
+        ensures after { (log : Meaning) (down : LineView) (account : Account) (frame : List ℕ) →
+            let before = side_of self.old log (U.Line.view up.old) down account frame out.old in
+            let after = side_of self.new log (U.Line.view up.new) down account frame out.new in
+            after ≡ seat_tells (value_of packet.entry) before }
     {
         post(packet, up, out)?;
         self.unsent = 0;
@@ -67,7 +74,10 @@ impl Seat {
     // Says why it leaves, if the line has the room for it, and is apart.
     pub(crate) fn part<U: Line>(&mut self, reason: LogoutReason, up: &mut U, out: &mut [u8])
         requires { packet_limit ≤ length out.old }
-        ensures { (log : Meaning) (down : LineView) (account : Account) (frame : List ℕ) → side_of self.new log (U.Line.view up.new) down account frame out.new ≡ seat_gone reason (side_of self.old log (U.Line.view up.old) down account frame out.old) }
+        ensures { (log : Meaning) (down : LineView) (account : Account) (frame : List ℕ) →
+            let before = side_of self.old log (U.Line.view up.old) down account frame out.old in
+            let after = side_of self.new log (U.Line.view up.new) down account frame out.new in
+            after ≡ seat_gone reason before }
     {
         let _ = self.write(logout(reason), up, out);
         self.state.part();

@@ -5,7 +5,7 @@ ghost use Rattle.rules.specs.State.{Pair};
 ghost use Rattle.rules.specs.Calls.{asking, connect};
 ghost use Rattle.rules.specs.Changes.{with_held};
 ghost use Rattle.rules.specs.Seat.{is_apart, seat_letters};
-ghost use Rattle.seat.specs.State.{apart, parted, stands_in, with_requested};
+ghost use Rattle.seat.specs.State.{apart, parted, with_state, with_requested};
 
 use message_log::Log;
 use rules::{How, SeatPhase};
@@ -13,7 +13,7 @@ use wire::{Letter, Refusal, Status};
 
 /// Where a seat stands with its connection.
 #[derive(Clone, Copy)]
-pub struct SeatState {
+pub(crate) struct SeatState {
     pub(crate) phase: SeatPhase,
     /// The session and the number that its login asked for.
     pub(crate) session: u8,
@@ -30,7 +30,7 @@ pub struct SeatState {
 
 impl SeatState {
     /// Apart, with nothing asked for.
-    pub fn new() -> SeatState
+    pub(crate) fn new() -> SeatState
         ensures { result ≡ apart }
     {
         SeatState {
@@ -45,8 +45,10 @@ impl SeatState {
     }
 
     /// A new connection: it asks for what the way to connect asks for.
-    pub fn asking<G: Log>(how: How, log: &G) -> SeatState
-        ensures { (p : Pair) → stands_in result (G.Log.view log.now) p ≡ asking how (with_held p (G.Log.view log.now)) }
+    pub(crate) fn asking<G: Log>(how: How, log: &G) -> SeatState
+        ensures { (p : Pair) →
+            let held = G.Log.view log.now in
+            with_state result held p ≡ asking how (with_held p held) }
     {
         let (session, number, fetch) = match how {
             How::Join => (log.session(), log.count() as u64 + 1, None),
@@ -62,69 +64,34 @@ impl SeatState {
         }
     }
 
-    /// Where it stands with its connection.
-    pub fn phase(&self) -> SeatPhase
-        ensures { result ≡ self.now.phase }
-    {
-        self.phase
-    }
-
-    /// Whether it has reported itself in step since the connect: that it holds all that was published.
-    pub fn in_step(&self) -> bool
-        ensures { result ≡ self.now.in_step }
-    {
-        self.in_step
-    }
-
-    /// The status that rejected its login, if one did.
-    pub fn status(&self) -> Option<Status>
-        ensures { result ≡ self.now.status }
-    {
-        self.status
-    }
-
     /// Whether it has no connection.
-    pub fn is_apart(&self) -> bool
+    pub(crate) fn is_apart(&self) -> bool
         ensures { result ≡ is_apart self.now.phase }
     {
         matches!(self.phase, SeatPhase::Apart)
     }
 
     /// The letters that it takes in its phase.
-    pub fn letters(&self) -> &'static [Letter]
+    pub(crate) fn letters(&self) -> &'static [Letter]
         ensures { result.now ≡ seat_letters self.now.phase self.now.fetch }
     {
         match (self.phase, self.fetch) {
             (SeatPhase::Apart, _) => &[],
             (SeatPhase::Asking, _) => &ASKING,
             (SeatPhase::Live, None) => &LIVE,
-            (SeatPhase::Live, Some(_)) => &LIVE[..LIVE.len() - 1],
+            (SeatPhase::Live, Some(_)) => &LIVE_FETCH,
         }
     }
 
-    /// The session that its login asked for.
-    pub fn session(&self) -> u8
-        ensures { result ≡ self.now.session }
-    {
-        self.session
-    }
-
-    /// The number that its login asked for.
-    pub fn number(&self) -> u64
-        ensures { result ≡ self.now.number }
-    {
-        self.number
-    }
-
     /// It has no connection any more.
-    pub fn part(&mut self)
+    pub(crate) fn part(&mut self)
         ensures { self.new ≡ parted self.old }
     {
         self.phase = SeatPhase::Apart;
     }
 
     /// Says whether its fetch is requested.
-    pub fn set_requested(&mut self, requested: bool)
+    pub(crate) fn set_requested(&mut self, requested: bool)
         ensures { self.new ≡ with_requested requested self.old }
     {
         self.requested = requested;
@@ -132,7 +99,7 @@ impl SeatState {
 }
 
 /// Whether a seat with this log can connect so: a fetch needs a session, and an end above what is held.
-pub fn may_connect<G: Log>(how: How, log: &G) -> Result<(), Refusal>
+pub(crate) fn may_connect<G: Log>(how: How, log: &G) -> Result<(), Refusal>
     ensures { (p : Pair) → (connect how (with_held p (G.Log.view log.now))).answer ≡ result }
 {
     match how {
@@ -144,7 +111,6 @@ pub fn may_connect<G: Log>(how: How, log: &G) -> Result<(), Refusal>
 
 const ASKING: [Letter; 2] = [Letter::LoginResponse, Letter::GoodBye];
 
-// Synchronization complete stands last: a fetch takes all the others.
 const LIVE: [Letter; 7] = [
     Letter::Sequenced,
     Letter::Unsequenced,
@@ -153,4 +119,14 @@ const LIVE: [Letter; 7] = [
     Letter::HubHeartbeat,
     Letter::Test,
     Letter::SynchronizationComplete,
+];
+
+// A fetch takes no synchronization complete.
+const LIVE_FETCH: [Letter; 6] = [
+    Letter::Sequenced,
+    Letter::Unsequenced,
+    Letter::GoodBye,
+    Letter::EndOfSession,
+    Letter::HubHeartbeat,
+    Letter::Test,
 ];

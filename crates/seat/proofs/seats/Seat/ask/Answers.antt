@@ -7,7 +7,6 @@ use Rattle.packet.specs.Values.{encode, login_request}
 use Rattle.line.specs.Lines.{LineView, cleared, fits}
 use Rattle.account.specs.Logins.{spoken_version}
 use Rattle.rules.specs.Rounds.{too_short}
-use Rattle.seat.specs.Asks.{fields_of}
 use Rattle.framing.specs.Calling.{answered}
 use Rattle.seat.specs.Ends.{side_of}
 use Rattle.seat.specs.declared.seats.Seat.{Seat}
@@ -18,7 +17,7 @@ pub returns-in_err-may_connect : goal.returns-in_err-may_connect
 returns-in_err-may_connect g c down frame =
     let log = g.G.Log.view c.args.log.now in
     let up = g.U.Line.view c.args.up.now in
-    let account = fields_of c.args.account.now in
+    let account = c.args.account.now in
     let out = c.args.out.now in
     let s = side_of c.args.self.now log up (cleared down) account frame out in
     let e = c.in_err-may_connect.field-0.0 in
@@ -40,11 +39,11 @@ returns g c down frame =
     let cleaned = g.U.Line.view c.clear.new.self in
     let up' = g.U.Line.view c.write.new.up in
     let out = c.args.out.now in
-    let v = login_request spoken_version a.user a.computer a.protocol c.session.result c.number.result in
+    let v = login_request spoken_version a.user a.computer a.protocol c.asking.result.session c.asking.result.number in
     let short : too_short out ≡ false = le-ltb (length out) packet_limit (omega arith) in
     let f : fits cleaned (encode v) ≡ true =
-    ap (λ (x : LineView). fits x (encode v)) c.clear.ensures ∙ login_fits a.user a.computer a.protocol c.session.result c.number.result up u d p (g.met.U.Line.sound c.args.up.now) in
-    ap (λ (r : Result (Unit {0}) Refusal). answered r (side_of c.write.new.self log up' (cleared down) (fields_of a) frame c.write.new.out)) (c.write.ensures.answer ∙ cond-true _ _ _ f)
-    ∙ asks_granted c.args.how seat begun c.write.new.self log up cleaned up' down (fields_of a) frame out c.write.new.out c.in_ok-may_connect.field-0 c.session.result c.number.result c.session.ensures c.number.ensures
-    short c.clear.ensures (c.may_connect.ensures (side_of seat log up (cleared down) (fields_of a) frame out) ∙ c.in_ok-may_connect.was)
-    (c.asking.ensures (emptied (side_of seat log cleaned (cleared down) (fields_of a) frame out))) f (c.write.ensures.after log (cleared down) (fields_of a) frame)
+    ap (λ (x : LineView). fits x (encode v)) c.clear.ensures ∙ login_fits a.user a.computer a.protocol c.asking.result.session c.asking.result.number up u d p (g.met.U.Line.sound c.args.up.now) in
+    ap (λ (r : Result (Unit {0}) Refusal). answered r (side_of c.write.new.self log up' (cleared down) a frame c.write.new.out)) (c.write.ensures.answer ∙ cond-true _ _ _ f)
+    ∙ asks_granted c.args.how seat begun c.write.new.self log up cleaned up' down a frame out c.write.new.out c.in_ok-may_connect.field-0
+    short c.clear.ensures (c.may_connect.ensures (side_of seat log up (cleared down) a frame out) ∙ c.in_ok-may_connect.was)
+    (c.asking.ensures (emptied (side_of seat log cleaned (cleared down) a frame out))) f (c.write.ensures.after log (cleared down) a frame)

@@ -5,6 +5,7 @@ use Rattle.packet.specs.declared.packets.Packet.{Packet}
 use Rattle.packet.specs.Decoding.{part, whole}
 use Rattle.packet.specs.Meanings.{answer_of, value_of}
 use Rattle.rules.specs.declared.answers.Received.{Received}
+use Rattle.framing.proofs.Fills.{fewer_after}
 use Rattle.seat.specs.Acts.{closing}
 use Rattle.seat.specs.Ends.{side_of}
 use Rattle.seat.proofs.Frames.{hears_judged, taken}
@@ -50,3 +51,7 @@ returns-in-Some-clause-outcome g c up account out =
     let j = sym (ap answer_of (c.in_ok-judge.was ∙ ap (λ (x : Option Packet). Ok x) c.in-Some.is)) ∙ c.judge.ensures in
     c.act.ensures (side_of (taken 0 s) log up w account buf' out)
     ∙ hears_judged s log up v w account buf buf' out k (Ok (whole (value_of packet))) c.requires c.fill-count.ensures c.if-count-eq0.false j
+
+pub returns-in-Some-clause-fewer : goal.returns-in-Some-clause-fewer
+returns-in-Some-clause-fewer g c =
+    fewer_after c.act.result _ _ _ _ _ _ _ c.if-count-eq0.false c.fill-count.ensures

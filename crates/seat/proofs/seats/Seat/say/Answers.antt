@@ -19,4 +19,4 @@ returns-in-Live g c log down account frame =
     let short : too_short out ≡ false = le-ltb (length out) packet_limit (omega arith) in
     ap (λ (r : Result (Unit {0}) Refusal). answered r t) (c.write.ensures.answer ∙ cond-true _ _ _ f)
     ∙ ap (λ (x : Pair). answered (Ok tt) x) (c.write.ensures.after log down account frame ∙ cond-true _ _ _ f)
-    ∙ says_granted c.args.message.now s (omega arith) short f (sym c.phase.ensures ∙ c.in-Live.is)
+    ∙ says_granted c.args.message.now s (omega arith) short f c.in-Live.is
