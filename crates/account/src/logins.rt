@@ -36,7 +36,9 @@ impl Accounts {
     /// Decides a login and, where it is accepted, marks its row and answers the row's place. Otherwise answers
     /// the status, which is never `Accepted`, and changes nothing.
     pub fn admit(&mut self, login: Login<'_>, session: u8, highest: u64) -> Result<usize, Status>
-        ensures admits { Admits self.old.rows self.new.rows session highest (asked login.entry) result }
+        ensures admits { let before = self.old.rows in
+            let after = self.new.rows in
+            Admits before after session highest (asked login.entry) result }
         ensures whole { Whole self.new }
     {
         // No answer is only wrapped anew here: it takes both, the decision and the row.

@@ -30,14 +30,18 @@ session_in Message body = Err BadSession
 -- the message that a record holds, under session s
 abbrev pub message_in : ℕ → Mark → List ℕ → Result (List ℕ) RecordFault
 message_in s Session body = Err BadSession
-message_in s Message body = cond (nat_lt message_limit (length body)) (Err MessageTooLong) (cond (s == 0) (Err NoSession) (Ok body))
+message_in s Message body =
+    cond (nat_lt message_limit (length body)) (Err MessageTooLong)
+    (cond (s == 0) (Err NoSession) (Ok body))
 
-abbrev pub marked : {X : Type 0} → Result Mark RecordFault → (Mark → Result X RecordFault) → Result X RecordFault
+abbrev pub marked : {X : Type 0} → Result Mark RecordFault → (Mark → Result X RecordFault) →
+    Result X RecordFault
 marked (Ok mark) held = held mark
 marked (Err f) held = Err f
 
 -- the record at the front, handed on with its mark and its body
-abbrev pub framed : {X : Type 0} → List ℕ → (Mark → List ℕ → Result X RecordFault) → Result X RecordFault
+abbrev pub framed : {X : Type 0} → List ℕ → (Mark → List ℕ → Result X RecordFault) →
+    Result X RecordFault
 framed b held =
     cond (nat_lt (length b) 4) (Err CutShort)
     (cond (nat_lt (length b) (4 + length_of b)) (Err CutShort)

@@ -30,7 +30,7 @@ room l = l.size - taken l.overhead l.messages
 
 -- the log with other contents: its three numbers stay
 abbrev pub holding : Meaning → ℕ → List (List ℕ) → Meaning
-holding l s ms = record { session = s; messages = ms; size = l.size; overhead = l.overhead; places = l.places }
+holding l s ms = record l { session = s; messages = ms }
 
 -- a session is begun: the list is empty
 abbrev pub begun : Meaning → ℕ → Meaning
