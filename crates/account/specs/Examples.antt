@@ -38,17 +38,17 @@ old_version asked = record asked { version = codes "1.0  " }
 abbrev pub other_protocol : Asked → Asked
 other_protocol asked = record asked { protocol = codes "fill1.0 " }
 
-pub data Example : Type 0 where
+pub data AccountExample : Type 0 where
   -- a user and a computer ID, and the row that is found
-  lookup : List ℕ → List ℕ → Option ℕ → Example
+  lookup : List ℕ → List ℕ → Option ℕ → AccountExample
   -- a login at a hub in session 7 that holds three messages, and its status
-  decision : Asked → Status → Example
+  decision : Asked → Status → AccountExample
 
-abbrev pub Holds : Example → Type 0
+abbrev pub Holds : AccountExample → Type 0
 Holds (lookup user computer row) = found table user computer ≡ row
 Holds (decision asked status) = status_for table 7 3 asked ≡ status
 
-abbrev pub examples : List Example
+abbrev pub examples : List AccountExample
 examples =
     -- mm01 is found by MM01, and by no shorter and no other text
     lookup (codes "MM01 ") (codes "desk1   ") (Some 0)

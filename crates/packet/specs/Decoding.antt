@@ -1,5 +1,5 @@
 -- What a reader says of the bytes that it is given: the first packet, a part of one, or a fault.
-use Rattle.std.specs.Prelude.{ℕ, ◌+◌, ◌-◌, ◌*◌, cond, List, length, take, drop, Some, None, Ok, Err, Option, Result, ◌==◌, nat_lt, slice_index}
+use Rattle.std.specs.Prelude.{ℕ, ◌+◌, ◌-◌, cond, List, [], ◌∷◌, length, take, drop, Some, None, Ok, Err, Option, Result, ◌==◌, nat_lt, slice_index}
 use Rattle.wire.specs.declared.faults.PacketFault.{PacketFault}
 use Rattle.wire.specs.declared.faults.PacketFault.TheVariants.{LengthZero, LengthOverLimit, WrongLength}
 use Rattle.wire.specs.declared.letters.Letter.{Letter}
@@ -22,7 +22,7 @@ next (Err fault) f = Err fault
 
 -- the length number in the first two bytes
 abbrev pub head_number : List ℕ → ℕ
-head_number bs = slice_index bs 0 + slice_index bs 1 * 256
+head_number bs = number (slice_index bs 0 ∷ slice_index bs 1 ∷ [])
 
 -- causes 1 and 2: the length number is 0 or over the limit
 abbrev pub counted : ℕ → Result ℕ PacketFault

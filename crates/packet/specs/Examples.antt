@@ -7,11 +7,11 @@ use Rattle.wire.specs.declared.statuses.Status.TheVariants.{Accepted}
 use Rattle.packet.specs.Values.{login_response, sequenced}
 use Rattle.packet.specs.Decoding.{Decoded, part, whole, decode}
 
-pub record Example : Type 0 where
+pub record PacketExample : Type 0 where
   pub bytes : List ℕ
   pub says : Result Decoded PacketFault
 
-abbrev pub examples : List Example
+abbrev pub examples : List PacketExample
 examples =
     -- a login is accepted: session 7, highest number 1
     record {
@@ -36,4 +36,4 @@ examples =
     ∷ []
 
 abbrev pub ExamplesHold : Type 0
-ExamplesHold = AllByRecursion (λ (x : Example). decode x.bytes ≡ x.says) examples
+ExamplesHold = AllByRecursion (λ (x : PacketExample). decode x.bytes ≡ x.says) examples
