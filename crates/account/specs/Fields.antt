@@ -37,7 +37,11 @@ abbrev pub good_fields : List ℕ → List ℕ → List ℕ → Bool
 good_fields user computer protocol = good 5 user && (good 8 computer && good 8 protocol)
 
 abbrev pub padded_fields : List ℕ → List ℕ → List ℕ → Account
-padded_fields user computer protocol = record { user = padded 5 user; computer = padded 8 computer; protocol = padded 8 protocol }
+padded_fields user computer protocol =
+    record { user = padded 5 user; computer = padded 8 computer; protocol = padded 8 protocol }
 
 abbrev pub account_of : List ℕ → List ℕ → List ℕ → Result Account Refusal
-account_of user computer protocol = cond (good_fields user computer protocol) (Ok (padded_fields user computer protocol)) (Err BadAccountField)
+account_of user computer protocol =
+    cond (good_fields user computer protocol)
+    (Ok (padded_fields user computer protocol))
+    (Err BadAccountField)

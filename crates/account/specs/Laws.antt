@@ -16,12 +16,15 @@ pub record Fits (rows : List Row) (user computer : List ℕ) (i : ℕ) : Type 0 
 
 -- an answer to a lookup that names a row that fits, and none only where none fits; nothing is said of the order of looking
 abbrev pub Finds : List Row → List ℕ → List ℕ → Option ℕ → Type 0
-Finds rows user computer None = (k : ℕ) → k < length rows → matches (row_at rows k) user computer ≡ false
+Finds rows user computer None =
+    (k : ℕ) → k < length rows → matches (row_at rows k) user computer ≡ false
 Finds rows user computer (Some i) = Fits rows user computer i
 
 -- in a table that has no user and computer ID twice, whatever finds finds the same
 abbrev pub FindsTheSame : Type 0
-FindsTheSame = (rows : List Row) (user computer : List ℕ) (o : Option ℕ) → Single rows (length rows) → Finds rows user computer o → found rows user computer ≡ o
+FindsTheSame =
+    (rows : List Row) (user computer : List ℕ) (o : Option ℕ) → Single rows (length rows) →
+    Finds rows user computer o → found rows user computer ≡ o
 
 -- texts are alike just when, folded, they are the same
 abbrev pub Folds : Type 0
@@ -29,7 +32,9 @@ Folds = (a b : List ℕ) → Decides (alike a b) (map folded a ≡ map folded b)
 
 -- so capital letters do not matter in a lookup
 abbrev pub FindsByFolded : Type 0
-FindsByFolded = (rows : List Row) (u v c d : List ℕ) → map folded u ≡ map folded v → map folded c ≡ map folded d → found rows u c ≡ found rows v d
+FindsByFolded =
+    (rows : List Row) (u v c d : List ℕ) → map folded u ≡ map folded v →
+    map folded c ≡ map folded d → found rows u c ≡ found rows v d
 
 -- the mark of row i is what was asked for, and nothing else of it or of any other row has changed
 pub record Marks (before after : List Row) (i : ℕ) (mark : Bool) : Type 0 where
@@ -43,7 +48,9 @@ MarksOneRow = (rows : List Row) (i : ℕ) (mark : Bool) → Marks rows (marking 
 
 -- a mark changes nothing of what is found
 abbrev pub FoundAsBefore : Type 0
-FoundAsBefore = (rows : List Row) (i : ℕ) (mark : Bool) (user computer : List ℕ) → found (marking rows i mark) user computer ≡ found rows user computer
+FoundAsBefore =
+    (rows : List Row) (i : ℕ) (mark : Bool) (user computer : List ℕ) →
+    found (marking rows i mark) user computer ≡ found rows user computer
 
 -- check k of a list
 abbrev pub check_at : List Check → ℕ → Check
@@ -63,13 +70,15 @@ pub record FirstFails (list : List Check) (k : ℕ) (status : Status) : Type 0 w
 
 -- the six checks of a login by the row that is found
 abbrev pub checks_of : List Row → ℕ → ℕ → Asked → List Check
-checks_of rows session highest asked = checks rows (found rows asked.user asked.computer) session highest asked
+checks_of rows session highest asked =
+    checks rows (found rows asked.user asked.computer) session highest asked
 
 -- the status is that of the first check that fails, and accepted where none does
 abbrev pub TellsTheFirst : Type 0
 TellsTheFirst = (rows : List Row) (session highest : ℕ) (asked : Asked) →
     AllPass (checks_of rows session highest asked) (status_for rows session highest asked)
-    ⊎ ((k : ℕ) × FirstFails (checks_of rows session highest asked) k (status_for rows session highest asked))
+    ⊎ ((k : ℕ)
+    × FirstFails (checks_of rows session highest asked) k (status_for rows session highest asked))
 
 -- a login that is right in everything, by row i
 pub record Acceptable (rows : List Row) (session highest : ℕ) (asked : Asked) (i : ℕ) : Type 0 where
@@ -82,16 +91,21 @@ pub record Acceptable (rows : List Row) (session highest : ℕ) (asked : Asked) 
 
 -- just these logins are accepted
 pub record Accepts (rows : List Row) (session highest : ℕ) (asked : Asked) : Type 0 where
-  pub only : status_for rows session highest asked ≡ Accepted → (i : ℕ) × Acceptable rows session highest asked i
-  pub each : (i : ℕ) → Acceptable rows session highest asked i → status_for rows session highest asked ≡ Accepted
+  pub only : status_for rows session highest asked ≡ Accepted →
+      (i : ℕ) × Acceptable rows session highest asked i
+  pub each : (i : ℕ) → Acceptable rows session highest asked i →
+      status_for rows session highest asked ≡ Accepted
 
 abbrev pub AcceptsJustThese : Type 0
-AcceptsJustThese = (rows : List Row) (session highest : ℕ) (asked : Asked) → Single rows (length rows) → Accepts rows session highest asked
+AcceptsJustThese =
+    (rows : List Row) (session highest : ℕ) (asked : Asked) → Single rows (length rows) →
+    Accepts rows session highest asked
 
 -- a row that is marked lets nobody in
 abbrev pub LetsInOne : Type 0
 LetsInOne = (rows : List Row) (i : ℕ) (session highest : ℕ) (asked : Asked) →
-    found rows asked.user asked.computer ≡ Some i → status_for (marking rows i true) session highest asked ≢ Accepted
+    found rows asked.user asked.computer ≡ Some i →
+    status_for (marking rows i true) session highest asked ≢ Accepted
 
 -- a text that may stand in a field: 1 to its width bytes, each from ! to ~
 pub record IsField (width : ℕ) (text : List ℕ) : Type 0 where
@@ -109,17 +123,21 @@ JudgesFields = (width : ℕ) (text : List ℕ) → JudgedRight width text
 
 -- and no two of them become the same
 abbrev pub FieldsAreToldApart : Type 0
-FieldsAreToldApart = (width : ℕ) (text other : List ℕ) → good width text ≡ true → good width other ≡ true → padded width text ≡ padded width other → text ≡ other
+FieldsAreToldApart =
+    (width : ℕ) (text other : List ℕ) → good width text ≡ true → good width other ≡ true →
+    padded width text ≡ padded width other → text ≡ other
 
 -- a login that is let in: it is right in everything, and the row that was found is marked
-pub record LetIn (before after : List Row) (session highest : ℕ) (asked : Asked) (i : ℕ) : Type 0 where
+pub record LetIn (before after : List Row) (session highest : ℕ) (asked : Asked) (i : ℕ) :
+    Type 0 where
   pub accepted : status_for before session highest asked ≡ Accepted
   pub row : found before asked.user asked.computer ≡ Some i
   pub right : Acceptable before session highest asked i
   pub marks : after ≡ marking before i true
 
 -- a login that is turned away: the status is that of the first check that fails, and nothing changes
-pub record TurnedAway (before after : List Row) (session highest : ℕ) (asked : Asked) (status : Status) : Type 0 where
+pub record TurnedAway (before after : List Row) (session highest : ℕ) (asked : Asked)
+    (status : Status) : Type 0 where
   pub why : status_for before session highest asked ≡ status
   pub refused : status ≡ Accepted → ⊥
   pub first : (k : ℕ) × FirstFails (checks_of before session highest asked) k status
@@ -127,4 +145,5 @@ pub record TurnedAway (before after : List Row) (session highest : ℕ) (asked :
 
 abbrev pub Admits : List Row → List Row → ℕ → ℕ → Asked → Result ℕ Status → Type 0
 Admits before after session highest asked (Ok i) = LetIn before after session highest asked i
-Admits before after session highest asked (Err status) = TurnedAway before after session highest asked status
+Admits before after session highest asked (Err status) =
+    TurnedAway before after session highest asked status

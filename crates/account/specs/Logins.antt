@@ -31,17 +31,22 @@ abbrev pub of_row : Option ℕ → (ℕ → Bool) → Bool
 of_row None test = false
 of_row (Some i) test = test i
 
+-- the protocol of row i is the one asked for
+abbrev pub speaks : List Row → ℕ → Asked → Bool
+speaks rows i asked = bytes_eq (row_at rows i).account.protocol asked.protocol
+
+-- the session asked for is the one that is running, by its number or by 0
+abbrev pub asks_for : ℕ → Asked → Bool
+asks_for session asked = asked.session == 0 || (asked.session == session)
+
 -- the six checks of a login by the row found, in their order; the hub's log has this session and highest number
 abbrev pub checks : List Row → Option ℕ → ℕ → ℕ → Asked → List Check
 checks rows row session highest asked =
     record { passes = bytes_eq asked.version spoken_version; status = WrongVersion }
     ∷ record { passes = of_row row (λ i. true); status = UnknownUser }
-    ∷ record {
-      passes = of_row row (λ i. bytes_eq (row_at rows i).account.protocol asked.protocol);
-      status = WrongProtocol;
-    }
+    ∷ record { passes = of_row row (λ i. speaks rows i asked); status = WrongProtocol }
     ∷ record { passes = of_row row (λ i. not (row_at rows i).marked); status = AlreadyLoggedIn }
-    ∷ record { passes = asked.session == 0 || (asked.session == session); status = SessionUnavailable }
+    ∷ record { passes = asks_for session asked; status = SessionUnavailable }
     ∷ record { passes = nat_le asked.number (highest + 1); status = InvalidNumber }
     ∷ []
 

@@ -3,4 +3,12 @@ use Rattle.packet.specs.declared.packets.Login.{Login}
 use Rattle.account.specs.Logins.{Asked}
 
 abbrev pub asked : Login → Asked
-asked login = record { version = login.version.now; user = login.user.now; computer = login.computer.now; protocol = login.protocol.now; session = login.session; number = login.number }
+asked login =
+    record {
+      version = login.version.now;
+      user = login.user.now;
+      computer = login.computer.now;
+      protocol = login.protocol.now;
+      session = login.session;
+      number = login.number;
+    }

@@ -33,7 +33,7 @@ abbrev pub row_at : List Row → ℕ → Row
 row_at rows i = slice_index_or rows i no_row
 
 abbrev pub with_mark : Row → Bool → Row
-with_mark row mark = record { account = row.account; marked = mark }
+with_mark row mark = record row { marked = mark }
 
 -- the rows with the mark of row i set or taken away; no other row changes
 abbrev pub marking : List Row → ℕ → Bool → List Row

@@ -18,7 +18,9 @@ in_use rows count = take count rows
 
 -- a user and a computer ID stand in one row at most: of the first so many rows, none matches a later one
 abbrev pub Single : List Row → ℕ → Type 0
-Single rows count = (i j : ℕ) → (i < j) × (j < count) → matches (row_at rows i) (row_at rows j).account.user (row_at rows j).account.computer ≡ false
+Single rows count =
+    (i j : ℕ) → (i < j) × (j < count) →
+    matches (row_at rows i) (row_at rows j).account.user (row_at rows j).account.computer ≡ false
 
 -- what holds of every table: it has eight rows, and a user and a computer ID stand in one of those in use at most
 pub record Whole (t : Table) : Type 0 where
@@ -31,7 +33,8 @@ fresh account = record { account = account; marked = false }
 
 -- whether there is no place for an account: eight rows are in use, or one that matches
 abbrev pub taken : List Row → Account → Bool
-taken rows account = cond (nat_lt (length rows) 8) (is_some (found rows account.user account.computer)) true
+taken rows account =
+    cond (nat_lt (length rows) 8) (is_some (found rows account.user account.computer)) true
 
 -- the row that joins, or the refusal
 abbrev pub placed : List Row → Result Account Refusal → Result Row Refusal

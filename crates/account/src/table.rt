@@ -83,8 +83,10 @@ impl Accounts {
     /// Adds an account and answers the place of its row. Refuses by `BadAccountField`, and then by
     /// `AccountTaken` where every row is in use or one matches.
     pub fn add(&mut self, user: &[u8], computer: &[u8], protocol: &[u8]) -> Result<usize, Refusal>
-        ensures answer { result ≡ place_of self.old.rows (joining self.old.rows user.now computer.now protocol.now) }
-        ensures after { self.new.rows ≡ joined self.old.rows (joining self.old.rows user.now computer.now protocol.now) }
+        ensures answer { let row = joining self.old.rows user.now computer.now protocol.now in
+            result ≡ place_of self.old.rows row }
+        ensures after { let row = joining self.old.rows user.now computer.now protocol.now in
+            self.new.rows ≡ joined self.old.rows row }
         ensures whole { Whole self.new }
     {
         let place = self.rows().len();

@@ -46,7 +46,8 @@ abbrev pub progress : List ℕ → List Value → ℕ
 progress bs vs = length bs + length vs
 
 -- no ending yet: something was read or told; else an ending that fits what is held
-abbrev pub Answers : (bs : List ℕ) (vs : List Value) (e : Explainer) → Result (Option Ending) Error → Went bs vs e → Type 0
+abbrev pub Answers : (bs : List ℕ) (vs : List Value) (e : Explainer) →
+    Result (Option Ending) Error → Went bs vs e → Type 0
 Answers bs vs e (Ok None) w = progress bs vs < progress (bs ++ w.more) w.packets
 Answers bs vs e (Ok (Some ending)) w = Ends e.frame ending
 Answers bs vs e (Err fault) w = Unit {0}
@@ -62,7 +63,8 @@ More old new (Err fault) = new ≡ old
 -- one step of an explainer takes any run that led to it further
 abbrev pub Turned : Explainer → Explainer → Result (Option Ending) Error → Type 0
 Turned old new r =
-    (bs : List ℕ) (vs : List Value) → Run bs vs old.frame → Knows vs old.tally old.offset → (w : Went bs vs new) × Answers bs vs new r w
+    (bs : List ℕ) (vs : List Value) → Run bs vs old.frame → Knows vs old.tally old.offset →
+    (w : Went bs vs new) × Answers bs vs new r w
 
 -- a run from the first byte has led here; which bytes came is the input's affair
 pub record Reached (e : Explainer) : Type 0 where

@@ -9,9 +9,11 @@ use Rattle.packet.specs.Laws.{Bytes}
 pub data Run : List ℕ → List Value → List ℕ → Type 0 where
   start : Run [] [] []
   -- more bytes come in behind those that are held
-  came : {bs : List ℕ} {vs : List Value} {held : List ℕ} → Run bs vs held → (more : List ℕ) → Run (bs ++ more) vs (held ++ more)
+  came : {bs : List ℕ} {vs : List Value} {held : List ℕ} → Run bs vs held → (more : List ℕ) →
+      Run (bs ++ more) vs (held ++ more)
   -- the packet at the front is told, and passed over
-  told : {bs : List ℕ} {vs : List Value} {held : List ℕ} → Run bs vs held → (v : Value) → decode held ≡ Ok (whole v) → Run bs (vs ++ v ∷ []) (drop (length (encode v)) held)
+  told : {bs : List ℕ} {vs : List Value} {held : List ℕ} → Run bs vs held → (v : Value) →
+      decode held ≡ Ok (whole v) → Run bs (vs ++ v ∷ []) (drop (length (encode v)) held)
 
 -- the bytes are the packets told, as they are written, one after the other, and then those held
 pub record Accounted (bs : List ℕ) (vs : List Value) (held : List ℕ) : Type 0 where
@@ -19,7 +21,9 @@ pub record Accounted (bs : List ℕ) (vs : List Value) (held : List ℕ) : Type 
   pub valid : AllByRecursion Valid vs
 
 abbrev pub AccountsForEveryByte : Type 0
-AccountsForEveryByte = (bs : List ℕ) (vs : List Value) (held : List ℕ) → Bytes bs → Run bs vs held → Accounted bs vs held
+AccountsForEveryByte =
+    (bs : List ℕ) (vs : List Value) (held : List ℕ) → Bytes bs → Run bs vs held →
+    Accounted bs vs held
 
 -- no packet stands at the front
 abbrev pub Stopped : List ℕ → Type 0
@@ -31,4 +35,6 @@ pub record Same (vs ws : List Value) (f g : List ℕ) : Type 0 where
   pub left : f ≡ g
 
 abbrev pub PiecesDoNotMatter : Type 0
-PiecesDoNotMatter = (bs : List ℕ) (vs ws : List Value) (f g : List ℕ) → Bytes bs → Run bs vs f → Run bs ws g → Stopped f → Stopped g → Same vs ws f g
+PiecesDoNotMatter =
+    (bs : List ℕ) (vs ws : List Value) (f g : List ℕ) → Bytes bs → Run bs vs f → Run bs ws g →
+    Stopped f → Stopped g → Same vs ws f g

@@ -9,8 +9,8 @@ use crate::frames::Frame;
 use crate::packet_words::{show_packet, show_rest};
 use crate::summary_words::show_summary;
 use packet::LetterCounts;
-use std::io;
 use std::alloc::Global;
+use std::io;
 use std::io::{Read, Write};
 
 /// What is known while a capture is explained.

@@ -6,9 +6,9 @@ use crate::finding::Found;
 use crate::rows::{ROW, row};
 use crate::texts::Text;
 use packet::{Login, Packet, Reader};
-use std::io;
 use std::alloc::Global;
 use std::fmt::Display;
+use std::io;
 use std::io::Write;
 use wire::{Letter, Status};
 

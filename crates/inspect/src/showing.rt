@@ -2,19 +2,19 @@
 use capture::rows::{ROW, row};
 use logs::{JOURNAL_LEAST, JOURNAL_LIMIT, Journal, fault_at};
 use message_log::Log;
-use std::io;
 use std::alloc::Global;
+use std::io;
 use std::io::Write;
 use wire::{Refusal, Unmade};
 
 /// Where journals are shown, and the heap that it takes.
 #[derive(Drop)]
-pub struct Report<W> {
+pub struct Printer<W> {
     pub heap: Global,
     pub out: W,
 }
 
-impl<W: Write> Report<W> {
+impl<W: Write> Printer<W> {
     /// Shows one message: its number, where its record begins, its length, and its bytes.
     fn show_message(&mut self, journal: &Journal, n: usize) -> io::Result<()> {
         match (journal.place(n), journal.message(n)) {

@@ -26,17 +26,17 @@ fresh full limit = record { waiting = []; room = full; full = full; limit = limi
 
 -- The line with a piece behind what waits.
 abbrev pub joined : LineView → List ℕ → LineView
-joined v piece =
-    record { waiting = v.waiting ++ piece; room = v.room - length piece; full = v.full; limit = v.limit }
+joined v piece = record v { waiting = v.waiting ++ piece; room = v.room - length piece }
 
 abbrev pub cleared : LineView → LineView
-cleared v = fresh v.full v.limit
+cleared v = record v { waiting = []; room = v.full }
 
 abbrev pub fits : LineView → List ℕ → Bool
 fits v piece = nat_le (length piece) v.room
 
 -- A put is granted just when the piece fits the room; a refused one changes nothing.
-pub record Put (v : LineView) (piece : List ℕ) (r : Result (Unit {0}) Refusal) (w : LineView) : Type 0 where
+pub record Put (v : LineView) (piece : List ℕ) (r : Result (Unit {0}) Refusal) (w : LineView) :
+    Type 0 where
   pub answer : r ≡ cond (fits v piece) (Ok tt) (Err LineFull)
   pub after : w ≡ cond (fits v piece) (joined v piece) v
 
@@ -46,7 +46,8 @@ handed v buffer = min (min (length v.waiting) buffer) v.limit
 
 -- A take of k bytes from a line v into a buffer leaves the line w and the buffer as filled. The room of w is
 -- the line's own choice, as long as it does not fall and the line stays sound.
-pub record Taken (v : LineView) (buffer : List ℕ) (k : ℕ) (w : LineView) (filled : List ℕ) : Type 0 where
+pub record Taken (v : LineView) (buffer : List ℕ) (k : ℕ) (w : LineView) (filled : List ℕ) :
+    Type 0 where
   pub count : k ≡ handed v (length buffer)
   pub front : filled ≡ take k v.waiting ++ drop k buffer
   pub rest : w.waiting ≡ drop k v.waiting

@@ -4,8 +4,8 @@ use Rattle.wire.specs.declared.refusals.Refusal.{Refusal}
 use Rattle.wire.specs.declared.refusals.Refusal.TheVariants.{ShortBuffer}
 use Rattle.line.specs.Lines.{LineView, joined}
 
--- n bytes went from the line v to the line d, which are w and e then. What moved, followed by what stayed, is
--- what waited, and what moved stands behind what waited at the other end.
+-- n bytes went from the line v to the line d, which are w and e then. What moved, followed by what stayed,
+-- is what waited, and what moved stands behind what waited at the other end.
 pub record Moved (v d : LineView) (n : ℕ) (w e : LineView) : Type 0 where
   pub moved : List ℕ
   pub count : length moved ≡ n
@@ -22,14 +22,21 @@ Scratch v buffer after =
     (length after ≡ length buffer)
     × (drop (min (length buffer) v.limit) after ≡ drop (min (length buffer) v.limit) buffer)
 
+-- The two lines of a transfer, and the buffer between them.
+pub record Transfer : Type 0 where
+  pub from : LineView
+  pub to : LineView
+  pub buffer : List ℕ
+
+abbrev pub transfer_of : LineView → LineView → List ℕ → Transfer
+transfer_of from to buffer = record { from = from; to = to; buffer = buffer }
+
 -- As much goes as waits and as there is room for. The front of the buffer, as far as one take can reach, is
--- free afterwards.
-abbrev pub Transferred :
-    LineView → LineView → List ℕ → Result ℕ Refusal → LineView → LineView → List ℕ → Type 0
-Transferred v d buffer (Ok n) w e after =
-    (1 ≤ length buffer)
-    × Moved v d n w e
-    × (n ≡ min (length v.waiting) d.room)
-    × Scratch v buffer after
-Transferred v d buffer (Err r) w e after =
-    (buffer ≡ []) × (r ≡ ShortBuffer) × (w ≡ v) × (e ≡ d) × (after ≡ buffer)
+-- free afterwards. A refused transfer changes nothing.
+abbrev pub Transfers : Transfer → Result ℕ Refusal → Transfer → Type 0
+Transfers before (Ok n) after =
+    (1 ≤ length before.buffer)
+    × Moved before.from before.to n after.from after.to
+    × (n ≡ min (length before.from.waiting) before.to.room)
+    × Scratch before.from before.buffer after.buffer
+Transfers before (Err r) after = (before.buffer ≡ []) × (r ≡ ShortBuffer) × (after ≡ before)

@@ -1,6 +1,6 @@
 //! Moving what waits from one line to another.
 ghost use Rattle.std.specs.Prelude.{◌≡◌, length};
-ghost use Rattle.line.specs.Transfers.{Transferred};
+ghost use Rattle.line.specs.Transfers.{transfer_of, Transfers};
 
 use crate::lines::Line;
 use wire::Refusal;
@@ -12,7 +12,9 @@ pub fn transfer<F: Line, T: Line>(
     to: &mut T,
     buffer: &mut [u8],
 ) -> Result<usize, Refusal>
-    ensures { Transferred (F.Line.view from.old) (T.Line.view to.old) buffer.old result (F.Line.view from.new) (T.Line.view to.new) buffer.new }
+    ensures { let before = transfer_of (F.Line.view from.old) (T.Line.view to.old) buffer.old in
+        let after = transfer_of (F.Line.view from.new) (T.Line.view to.new) buffer.new in
+        Transfers before result after }
 {
     if buffer.is_empty() {
         return Err(Refusal::ShortBuffer);

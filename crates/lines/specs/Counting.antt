@@ -8,7 +8,8 @@ use Rattle.packet.specs.LetterCounts.{raised}
 
 -- the letter of a packet: its third byte, behind the length
 abbrev pub letter_in : List ℕ → Option Letter
-letter_in packet = cond (nat_le 3 (length packet)) (result_ok (letter_of (slice_index packet 2))) None
+letter_in packet =
+    cond (nat_le 3 (length packet)) (result_ok (letter_of (slice_index packet 2))) None
 
 -- one packet more, if it has a letter
 abbrev pub noted : Option Letter → List ℕ → List ℕ

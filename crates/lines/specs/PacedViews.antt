@@ -18,7 +18,8 @@ smallest : (waiting buffer limit pace most : ℕ) → most ≡ min buffer pace �
     min (min waiting most) limit ≡ min (min waiting buffer) (min limit pace)
 smallest waiting buffer limit pace most e = omega arith
 
-pub paced_take : {v w : LineView} {f : List ℕ} {k : ℕ} (b : List ℕ) (pace most : ℕ) → Taken v (take most b) k w f →
+pub paced_take : {v w : LineView} {f : List ℕ} {k : ℕ} (b : List ℕ) (pace most : ℕ) →
+    Taken v (take most b) k w f →
     most ≡ min (length b) pace → Taken (paced_view v pace) b k (paced_view w pace) (f ++ post_of 0 most b)
 paced_take {v} {w} {f} {k} b pace most t e =
     let l : length (take most b) ≡ most = length-take most b ∙ omega arith in

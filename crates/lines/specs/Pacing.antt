@@ -4,4 +4,4 @@ use Rattle.line.specs.Lines.{LineView}
 
 -- The line under it, but for the hand-out limit.
 abbrev pub paced_view : LineView → ℕ → LineView
-paced_view v n = record { waiting = v.waiting; room = v.room; full = v.full; limit = min v.limit n }
+paced_view v n = record v { limit = min v.limit n }

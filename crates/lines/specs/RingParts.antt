@@ -18,7 +18,8 @@ module _ (xs : List ℕ) (start count : ℕ) (h : start ≤ length xs) where
       ap (take count) (drop-append-le start xs xs h) ∙ take-append-le count (drop start xs) xs m
 
   -- the last m bytes of it go round the end
-  pub far : (m : ℕ) → start + count ≡ length xs + m → ringed xs start count ≡ drop start xs ++ take m xs
+  pub far : (m : ℕ) → start + count ≡ length xs + m →
+      ringed xs start count ≡ drop start xs ++ take m xs
   far m e =
       let n : count ≡ length (drop start xs) + m = simp length-drop (omega arith) in
       ap (take count) (drop-append-le start xs xs h)
@@ -29,9 +30,11 @@ module _ (xs : List ℕ) (start count : ℕ) (h : start ≤ length xs) where
   ringed_length l = simp (length-take, length-drop, length-append) (omega arith)
 
 -- The first k bytes, and then the rest from the place k on.
-pub ringed_split : (xs : List ℕ) (start count k to : ℕ) → k ≤ count → count ≤ length xs → start < length xs →
+pub ringed_split : (xs : List ℕ) (start count k to : ℕ) → k ≤ count → count ≤ length xs →
+    start < length xs →
     Onward start k (length xs) to → ringed xs start count ≡ ringed xs start k ++ ringed xs to (count - k)
-ringed_split xs start count k to l c s g = whole ∙ ap (λ q. ringed xs start k ++ q) (by_case (cases_lt (start + k) (length xs)))
+ringed_split xs start count k to l c s g =
+    whole ∙ ap (λ q. ringed xs start k ++ q) (by_case (cases_lt (start + k) (length xs)))
   where
     whole : ringed xs start count ≡ ringed xs start k ++ take (count - k) (drop (start + k) (xs ++ xs))
     whole =
@@ -63,7 +66,8 @@ two_parts front back rest a l =
 -- What was laid behind what waits, waits behind it.
 module _ (xs : List ℕ) (start count at : ℕ) (piece ys : List ℕ) (s : start < length xs) (c : count + length piece ≤ length xs) where
   -- a part that begins before the piece is the part before it, and the piece
-  up_to : (p : List ℕ) (z : List ℕ) (n : ℕ) → at ≡ start + count → at + length p ≤ length xs → z ≡ laid xs at p → n ≡ count + length p →
+  up_to : (p : List ℕ) (z : List ℕ) (n : ℕ) → at ≡ start + count → at + length p ≤ length xs →
+      z ≡ laid xs at p → n ≡ count + length p →
       take n (drop start z) ≡ take count (drop start xs) ++ p
   up_to p z n a l e i =
       let q : start ≤ length (take at xs) = simp length-take (omega arith) in
@@ -129,7 +133,8 @@ module _ (xs : List ℕ) (start count at : ℕ) (piece ys : List ℕ) (s : start
       ringed ys start (count + length piece) ≡ ringed xs start count ++ piece
   ringed_put g l = by_case (cases_lt (start + count) (length xs)) (cases_lt (length xs) (at + length piece))
     where
-      by_case : (start + count < length xs) ⊎ (length xs ≤ start + count) → (length xs < at + length piece) ⊎ (at + length piece ≤ length xs) →
+      by_case : (start + count < length xs) ⊎ (length xs ≤ start + count) →
+          (length xs < at + length piece) ⊎ (at + length piece ≤ length xs) →
           ringed ys start (count + length piece) ≡ ringed xs start count ++ piece
       by_case (inl i) (inl j) = let a = g.near i in lay_over a (omega arith) j (l.far j)
       by_case (inl i) (inr j) = lay_near (g.near i) j (l.near j)

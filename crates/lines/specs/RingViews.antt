@@ -20,7 +20,8 @@ module _ (places : List ℕ) (size start count : ℕ) (long : length places ≡ 
         some = omega arith;
       }
 
-  pub ring_put : (at : ℕ) (piece after : List ℕ) → length piece ≤ size - count → Onward start count size at →
+  pub ring_put : (at : ℕ) (piece after : List ℕ) → length piece ≤ size - count →
+      Onward start count size at →
       LaidRound places at piece after → Put (ring_view places size start count) piece (Ok tt) (ring_view after size start (count + length piece))
   ring_put at piece after h g l =
       put_granted h
@@ -29,7 +30,8 @@ module _ (places : List ℕ) (size start count : ℕ) (long : length places ≡ 
       (subst (λ n. Onward start count n at) (sym long) g) l)
       (omega arith))
 
-  pub ring_take : (buffer filled : List ℕ) (k to : ℕ) → k ≡ min (min count (length buffer)) packet_limit → Onward start k size to →
+  pub ring_take : (buffer filled : List ℕ) (k to : ℕ) →
+      k ≡ min (min count (length buffer)) packet_limit → Onward start k size to →
       filled ≡ ringed places start k ++ drop k buffer →
       Taken (ring_view places size start count) buffer k (ring_view places size to (count - k)) filled
   ring_take buffer filled k to e g f =

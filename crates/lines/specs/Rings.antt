@@ -16,7 +16,12 @@ InRing size start count = (start < size) × (count ≤ size) × LineSize size
 -- The meaning of a ring: the room is the size less what waits, the limit is the longest packet.
 abbrev pub ring_view : List ℕ → ℕ → ℕ → ℕ → LineView
 ring_view places size start count =
-    record { waiting = ringed places start count; room = size - count; full = size; limit = packet_limit }
+    record {
+      waiting = ringed places start count;
+      room = size - count;
+      full = size;
+      limit = packet_limit;
+    }
 
 -- The place r lies so many places on from `at`, round the end.
 pub record Onward (at by size r : ℕ) : Type 0 where
@@ -27,4 +32,5 @@ pub record Onward (at by size r : ℕ) : Type 0 where
 pub record LaidRound (places : List ℕ) (at : ℕ) (piece after : List ℕ) : Type 0 where
   pub near : at + length piece ≤ length places → after ≡ laid places at piece
   pub far : length places < at + length piece →
-      after ≡ laid (laid places at (take (length places - at) piece)) 0 (drop (length places - at) piece)
+      let ahead = length places - at in
+      after ≡ laid (laid places at (take ahead piece)) 0 (drop ahead piece)

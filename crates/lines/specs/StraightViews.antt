@@ -20,7 +20,8 @@ module _ (places : List ℕ) (size start end : ℕ) (long : length places ≡ si
         some = omega arith;
       }
 
-  pub straight_put : (piece after : List ℕ) → length piece ≤ size - end → after ≡ laid places end piece →
+  pub straight_put : (piece after : List ℕ) → length piece ≤ size - end →
+      after ≡ laid places end piece →
       Put (straight_view places size start end) piece (Ok tt) (straight_view after size start (end + length piece))
   straight_put piece after h e =
       let n = length piece in
@@ -41,7 +42,8 @@ module _ (places : List ℕ) (size start end : ℕ) (long : length places ≡ si
       (omega arith))
 
   -- one byte was taken, and the line is w then
-  pub straight_took : (buffer : List ℕ) (x : ℕ) (w : LineView) → start < end → 0 < length buffer → x ≡ slice_index_or places start x →
+  pub straight_took : (buffer : List ℕ) (x : ℕ) (w : LineView) → start < end → 0 < length buffer →
+      x ≡ slice_index_or places start x →
       w.waiting ≡ take (end - (start + 1)) (drop (start + 1) places) → size - end ≤ w.room → w.full ≡ size → w.limit ≡ 1 →
       Taken (straight_view places size start end) buffer 1 w (slice_set buffer 0 x)
   straight_took buffer x w h b i a r f l =

@@ -10,4 +10,9 @@ InOrder size start end = (start ≤ end) × (end ≤ size) × (start ≡ end →
 -- The meaning of a straight line: the room is what lies behind the end, the limit is one byte.
 abbrev pub straight_view : List ℕ → ℕ → ℕ → ℕ → LineView
 straight_view places size start end =
-    record { waiting = take (end - start) (drop start places); room = size - end; full = size; limit = 1 }
+    record {
+      waiting = take (end - start) (drop start places);
+      room = size - end;
+      full = size;
+      limit = 1;
+    }

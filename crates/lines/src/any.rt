@@ -35,7 +35,12 @@ macro_rules! at_each {
 }
 
 impl Line for AnyLine {
-    ghost view = { λ a. elim a [ K.Ring s ↦ ⟦<Ring as Line>⟧.view s | K.Straight s ↦ ⟦<Straight as Line>⟧.view s | K.PacedRing s ↦ ⟦<Paced<Ring> as Line>⟧.view s | K.PacedStraight s ↦ ⟦<Paced<Straight> as Line>⟧.view s ] };
+    ghost view = { elim [
+      | K.Ring s ↦ ⟦<Ring as Line>⟧.view s
+      | K.Straight s ↦ ⟦<Straight as Line>⟧.view s
+      | K.PacedRing s ↦ ⟦<Paced<Ring> as Line>⟧.view s
+      | K.PacedStraight s ↦ ⟦<Paced<Straight> as Line>⟧.view s
+    ] };
 
     ghost sound = { elim [
       | K.Ring s ↦ ring.sound-law s

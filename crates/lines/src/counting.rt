@@ -3,8 +3,8 @@ ghost use Rattle.std.specs.Prelude.{◌≡◌, replicate};
 ghost use Rattle.line.specs.Lines.{Put, Taken, cleared};
 ghost use Rattle.lines.specs.Counting.{counted, letter_in};
 
-use packet::LetterCounts;
 use line::{Line, PeekLine, SteadyLine};
+use packet::LetterCounts;
 use wire::{Letter, Refusal};
 
 /// A line over another, and how many packets were put on it, by letter.
@@ -42,7 +42,9 @@ impl<L: Line> CountedLine<L> {
 
     /// Puts a piece that is not counted.
     pub fn put_past(&mut self, piece: &[u8]) -> Result<(), Refusal>
-        ensures put { Put (L.Line.view self.old.line) piece.now result (L.Line.view self.new.line) }
+        ensures put { let before = L.Line.view self.old.line in
+            let after = L.Line.view self.new.line in
+            Put before piece.now result after }
         ensures same { self.new.tally ≡ self.old.tally }
     {
         self.line.put(piece)
@@ -63,8 +65,11 @@ impl<L: Line> Line for CountedLine<L> {
     }
 
     fn put(&mut self, piece: &[u8]) -> Result<(), Refusal>
-        ensures put { Put (L.Line.view self.old.line) piece.now result (L.Line.view self.new.line) }
-        ensures counted { self.new.tally ≡ counted (L.Line.view self.old.line) piece.now self.old.tally }
+        ensures put { let before = L.Line.view self.old.line in
+            let after = L.Line.view self.new.line in
+            Put before piece.now result after }
+        ensures counted { let before = L.Line.view self.old.line in
+            self.new.tally ≡ counted before piece.now self.old.tally }
     {
         self.line.put(piece)?;
         if let Some(letter) = letter_in(piece) {
@@ -74,7 +79,9 @@ impl<L: Line> Line for CountedLine<L> {
     }
 
     fn take(&mut self, buffer: &mut [u8]) -> usize
-        ensures taken { Taken (L.Line.view self.old.line) buffer.old result (L.Line.view self.new.line) buffer.new }
+        ensures taken { let before = L.Line.view self.old.line in
+            let after = L.Line.view self.new.line in
+            Taken before buffer.old result after buffer.new }
         ensures same { self.new.tally ≡ self.old.tally }
     {
         self.line.take(buffer)

@@ -20,7 +20,8 @@ impl<L: Line> Paced<L> {
     /// A layer over the line given that hands over at most so many bytes a take. A number outside the rules is
     /// refused.
     pub fn new(line: L, pace: usize) -> Result<Paced<L>, Unmade<L>>
-        ensures { Makes (PieceLength pace) (λ s. ⟦<Paced<L> as Line>⟧.view s ≡ paced_view (L.Line.view line) pace) line result }
+        ensures { let paced = paced_view (L.Line.view line) pace in
+            Makes (PieceLength pace) (λ s. ⟦<Paced<L> as Line>⟧.view s ≡ paced) line result }
     {
         let line = allow(is_piece_length(pace), line)?;
         Ok(Paced { line, pace })

@@ -26,7 +26,8 @@ pub struct Ring {
 impl Ring {
     /// An empty line over the memory given, whose length is the full size. A size outside the rules is refused.
     pub fn new(bytes: Vec<u8>) -> Result<Ring, Unmade<Vec<u8>>>
-        ensures { Makes (LineSize (vec_len bytes)) (λ s. ⟦<Ring as Line>⟧.view s ≡ fresh (vec_len bytes) packet_limit) bytes result }
+        ensures { let empty = fresh (vec_len bytes) packet_limit in
+            Makes (LineSize (vec_len bytes)) (λ s. ⟦<Ring as Line>⟧.view s ≡ empty) bytes result }
     {
         let bytes = allow(is_line_size(bytes.len()), bytes)?;
         Ok(Ring {

@@ -24,7 +24,8 @@ pub struct Straight {
 impl Straight {
     /// An empty line over the memory given, whose length is the full size. A size outside the rules is refused.
     pub fn new(bytes: Vec<u8>) -> Result<Straight, Unmade<Vec<u8>>>
-        ensures { Makes (LineSize (vec_len bytes)) (λ s. ⟦<Straight as Line>⟧.view s ≡ fresh (vec_len bytes) 1) bytes result }
+        ensures { let empty = fresh (vec_len bytes) 1 in
+            Makes (LineSize (vec_len bytes)) (λ s. ⟦<Straight as Line>⟧.view s ≡ empty) bytes result }
     {
         let bytes = allow(is_line_size(bytes.len()), bytes)?;
         Ok(Straight {

@@ -12,9 +12,9 @@ use Rattle.account.specs.Table.{joining, joined}
 use Rattle.account.proofs.Only.{fits}
 use Rattle.account.proofs.Marking.{marks_one_row}
 use Rattle.account.proofs.Deciding.{right}
-use Rattle.logins.specs.declared.desks.Answer.TheVariants.{Decided}
-use Rattle.logins.specs.Commands.{Order, account, hub, login, logout}
-use Rattle.logins.specs.Desks.{Seen, answered, done, entered, mark_found, is_accepted}
+use Rattle.logins.specs.declared.login_states.Reply.TheVariants.{Decided}
+use Rattle.logins.specs.Instructions.{Order, account, hub, login, logout}
+use Rattle.logins.specs.LoginStates.{LoginView, replied, done, entered, mark_found, is_accepted}
 use Rattle.logins.specs.Laws.{after, Spares, Spared, OneAtATime}
 
 -- row i is in use and marked
@@ -54,29 +54,29 @@ leaving_shut : (rows : List Row) (i : ℕ) (o : Option ℕ) → (o ≡ Some i �
 leaving_shut rows i None h s = s
 leaving_shut rows i (Some k) h s = unmarked_shut rows i k (λ e. h (ap Some (sym e))) s
 
-done_shut : (desk : Seen) (order : Order) (i : ℕ) → Spares i desk order → Shut desk.rows i → Shut (done desk order).rows i
-done_shut desk (account u c p) i h s = joined_shut desk.rows i (joining desk.rows u c p) s
-done_shut desk (hub a b) i h s = s
-done_shut desk (login asked) i h s =
-    entering_shut desk.rows i (is_accepted (status_for desk.rows desk.session desk.highest asked)) (found desk.rows asked.user asked.computer) s
-done_shut desk (logout u c) i h s = leaving_shut desk.rows i (found desk.rows u c) h s
+done_shut : (state : LoginView) (order : Order) (i : ℕ) → Spares i state order → Shut state.rows i → Shut (done state order).rows i
+done_shut state (account u c p) i h s = joined_shut state.rows i (joining state.rows u c p) s
+done_shut state (hub a b) i h s = s
+done_shut state (login asked) i h s =
+    entering_shut state.rows i (is_accepted (status_for state.rows state.session state.highest asked)) (found state.rows asked.user asked.computer) s
+done_shut state (logout u c) i h s = leaving_shut state.rows i (found state.rows u c) h s
 
-after_shut : (desk : Seen) (orders : List Order) (i : ℕ) → Spared i desk orders → Shut desk.rows i → Shut (after desk orders).rows i
-after_shut desk [] i h s = s
-after_shut desk (order ∷ orders) i (h, rest) s = after_shut (done desk order) orders i rest (done_shut desk order i h s)
+after_shut : (state : LoginView) (orders : List Order) (i : ℕ) → Spared i state orders → Shut state.rows i → Shut (after state orders).rows i
+after_shut state [] i h s = s
+after_shut state (order ∷ orders) i (h, rest) s = after_shut (done state order) orders i rest (done_shut state order i h s)
 
-accepted : (desk : Seen) (asked : Asked) → answered desk (login asked) ≡ Decided Accepted → status_for desk.rows desk.session desk.highest asked ≡ Accepted
-accepted desk asked e = cc
+accepted : (state : LoginView) (asked : Asked) → replied state (login asked) ≡ Decided Accepted → status_for state.rows state.session state.highest asked ≡ Accepted
+accepted state asked e = cc
 
-entered_shut : (desk : Seen) (asked : Asked) (i : ℕ) → status_for desk.rows desk.session desk.highest asked ≡ Accepted → found desk.rows asked.user asked.computer ≡ Some i → Shut (entered desk asked) i
-entered_shut desk asked i e f =
-    let m = marks_one_row desk.rows i true in
-    let w = (fits desk.rows asked.user asked.computer i f).within in
-    let is : entered desk asked ≡ marking desk.rows i true = ap (λ (t : Status). cond (is_accepted t) (mark_found desk.rows (found desk.rows asked.user asked.computer) true) desk.rows) e ∙ ap (λ (o : Option ℕ). mark_found desk.rows o true) f in
+entered_shut : (state : LoginView) (asked : Asked) (i : ℕ) → status_for state.rows state.session state.highest asked ≡ Accepted → found state.rows asked.user asked.computer ≡ Some i → Shut (entered state asked) i
+entered_shut state asked i e f =
+    let m = marks_one_row state.rows i true in
+    let w = (fits state.rows asked.user asked.computer i f).within in
+    let is : entered state asked ≡ marking state.rows i true = ap (λ (t : Status). cond (is_accepted t) (mark_found state.rows (found state.rows asked.user asked.computer) true) state.rows) e ∙ ap (λ (o : Option ℕ). mark_found state.rows o true) f in
     subst (λ (rows : List Row). Shut rows i) (sym is) (record { within = omega (arith, m.count, w); marked = ap (λ (x : Row). x.marked) (m.row w) })
 
 pub one_at_a_time : OneAtATime
-one_at_a_time desk first again orders i let_in here spared there once_more =
-    let shut = after_shut (done desk (login first)) orders i spared (entered_shut desk first i (accepted desk first let_in) here) in
-    let end = after desk (login first ∷ orders) in
+one_at_a_time state first again orders i let_in here spared there once_more =
+    let shut = after_shut (done state (login first)) orders i spared (entered_shut state first i (accepted state first let_in) here) in
+    let end = after state (login first ∷ orders) in
     both_ways _ (right end.rows end.session end.highest again (accepted end again once_more) i there).unmarked shut.marked

@@ -1,4 +1,4 @@
-pub mod Words
-pub mod Commands
-pub mod Desks
+pub mod Tokens
+pub mod Instructions
+pub mod LoginStates
 pub mod Laws

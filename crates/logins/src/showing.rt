@@ -1,24 +1,24 @@
-//! Answers and the table in words.
-use crate::desks::Answer;
+//! Replies and the table in words.
+use crate::login_states::Reply;
 use account::Accounts;
 use std::io;
 use std::io::Write;
 
-/// Writes what a command was answered.
-pub fn show_answer<W: Write>(out: &mut W, answer: Answer) -> io::Result<()> {
+/// Writes what an instruction was answered.
+pub fn show_answer<W: Write>(out: &mut W, answer: Reply) -> io::Result<()> {
     match answer {
-        Answer::Added(Ok(row)) => writeln!(out, "    row {row}"),
-        Answer::Added(Err(refusal)) => {
+        Reply::Added(Ok(row)) => writeln!(out, "    row {row}"),
+        Reply::Added(Err(refusal)) => {
             let number = refusal.number();
             writeln!(out, "    refused, {number} {refusal}")
         }
-        Answer::Noted => writeln!(out, "    noted"),
-        Answer::Decided(status) => {
+        Reply::Noted => writeln!(out, "    noted"),
+        Reply::Decided(status) => {
             let letter = char::from(u8::from(status));
             writeln!(out, "    '{letter}' {status}")
         }
-        Answer::LoggedOut(Some(row)) => writeln!(out, "    row {row} is logged out"),
-        Answer::LoggedOut(None) => writeln!(out, "    no such user and computer ID"),
+        Reply::LoggedOut(Some(row)) => writeln!(out, "    row {row} is logged out"),
+        Reply::LoggedOut(None) => writeln!(out, "    no such user and computer ID"),
     }
 }
 

@@ -4,8 +4,9 @@
 --     2 bytes | 2, low first  | as many bytes as the length says
 --
 -- The first record, marked 42 53, holds the session in one byte; each other, marked 4D 47, holds a message.
-use Rattle.std.specs.Prelude.{ℕ, ◌/◌, ◌%◌, List, [], ◌∷◌, ◌++◌, length}
+use Rattle.std.specs.Prelude.{ℕ, List, [], ◌∷◌, ◌++◌, length}
 use Rattle.std.specs.List.{flat_map}
+use Rattle.wire.specs.Numbers.{little}
 use Rattle.logs.specs.declared.records.Mark.{Mark}
 use Rattle.logs.specs.declared.records.Mark.TheVariants.{Session, Message}
 
@@ -15,7 +16,7 @@ mark_bytes Message = 0x4D ∷ 0x47 ∷ []
 
 -- mark and length
 abbrev pub head_of : Mark → ℕ → List ℕ
-head_of mark n = mark_bytes mark ++ n % 256 ∷ n / 256 % 256 ∷ []
+head_of mark n = mark_bytes mark ++ little 2 n
 
 abbrev pub session_record : ℕ → List ℕ
 session_record s = head_of Session 1 ++ s ∷ []

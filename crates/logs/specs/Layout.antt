@@ -31,7 +31,8 @@ places_of n = size_of n / gap
 
 -- a journal of n bytes with session s and the messages ms
 abbrev pub journal : ℕ → ℕ → List (List ℕ) → Meaning
-journal n s ms = record { session = s; messages = ms; size = size_of n; overhead = gap; places = places_of n }
+journal n s ms =
+    record { session = s; messages = ms; size = size_of n; overhead = gap; places = places_of n }
 
 -- where the record of message n begins: behind the session record and the records before it
 abbrev pub placed : Meaning → ℕ → Result ℕ Refusal

@@ -1,7 +1,7 @@
 -- What opening a saved log answers.
 use Rattle.std.specs.Prelude.{◌≡◌, ℕ, ◌<◌, ◌≤◌, Bool, true, false, ◌&&◌, List, [], length, take, drop, Err, nat_le, slice_index_or}
 use Rattle.wire.specs.declared.refusals.Refusal.{Refusal}
-use Rattle.wire.specs.declared.refusals.Refusal.TheVariants.{MessageTooLong, SessionZero, NoSuchMessage, ShortBuffer, SizeOutOfRange, BadAccountField, BrokenLog, BadPacket, LogFull, LineFull, WrongPhase, SessionFinished, HubBusy, LastSession, NoSession, NothingToFetch, AccountTaken, OutOfMemory}
+use Rattle.wire.specs.declared.refusals.Refusal.TheVariants.{SizeOutOfRange, BrokenLog, OutOfMemory}
 use Rattle.wire.specs.Limits.{message_limit}
 use Rattle.message_log.specs.Meaning.{Meaning}
 use Rattle.logs.specs.declared.records.RecordFault.{RecordFault}
@@ -14,32 +14,19 @@ pub record Savable (s : ℕ) (ms : List (List ℕ)) : Type 0 where
   pub short : (k : ℕ) → length (slice_index_or ms k []) ≤ message_limit
   pub silent : s ≡ 0 → ms ≡ []
 
--- the bytes are broken at a place: what stands before it is a saved log, and what stands there is no record that may
--- stand there
+-- the bytes are broken at a place: what stands before it is a saved log, and what stands there is no record
+-- that may stand there
 pub data Broken (bytes : List ℕ) : ℕ → Type 0 where
   front : (f : RecordFault) → session_of bytes ≡ Err f → Broken bytes 0
-  later : (s : ℕ) (ms : List (List ℕ)) (place : ℕ) (f : RecordFault) → Savable s ms → take place bytes ≡ saved s ms → place < length bytes → message_of s (drop place bytes) ≡ Err f → Broken bytes place
+  later : (s : ℕ) (ms : List (List ℕ)) (place : ℕ) (f : RecordFault) → Savable s ms →
+      take place bytes ≡ saved s ms → place < length bytes →
+      message_of s (drop place bytes) ≡ Err f → Broken bytes place
 
 -- why a journal of n bytes is not made
 abbrev pub Unmakable : ℕ → Refusal → Type 0
 Unmakable n SizeOutOfRange = makes n ≡ false
 Unmakable n OutOfMemory = makes n ≡ true
-Unmakable n (BrokenLog place) = ⊥
-Unmakable n MessageTooLong = ⊥
-Unmakable n SessionZero = ⊥
-Unmakable n NoSuchMessage = ⊥
-Unmakable n ShortBuffer = ⊥
-Unmakable n BadAccountField = ⊥
-Unmakable n (BadPacket fault) = ⊥
-Unmakable n LogFull = ⊥
-Unmakable n LineFull = ⊥
-Unmakable n WrongPhase = ⊥
-Unmakable n SessionFinished = ⊥
-Unmakable n HubBusy = ⊥
-Unmakable n LastSession = ⊥
-Unmakable n NoSession = ⊥
-Unmakable n NothingToFetch = ⊥
-Unmakable n AccountTaken = ⊥
+Unmakable n other = ⊥
 
 -- whether memory of n bytes can have so many in use
 abbrev pub opens : ℕ → ℕ → Bool
@@ -49,22 +36,9 @@ opens n used = makes n && nat_le used n
 abbrev pub Unopened : List ℕ → ℕ → Refusal → Type 0
 Unopened mem used SizeOutOfRange = opens (length mem) used ≡ false
 Unopened mem used OutOfMemory = opens (length mem) used ≡ true
-Unopened mem used (BrokenLog place) = (opens (length mem) used ≡ true) × Broken (take used mem) place
-Unopened mem used MessageTooLong = ⊥
-Unopened mem used SessionZero = ⊥
-Unopened mem used NoSuchMessage = ⊥
-Unopened mem used ShortBuffer = ⊥
-Unopened mem used BadAccountField = ⊥
-Unopened mem used (BadPacket fault) = ⊥
-Unopened mem used LogFull = ⊥
-Unopened mem used LineFull = ⊥
-Unopened mem used WrongPhase = ⊥
-Unopened mem used SessionFinished = ⊥
-Unopened mem used HubBusy = ⊥
-Unopened mem used LastSession = ⊥
-Unopened mem used NoSession = ⊥
-Unopened mem used NothingToFetch = ⊥
-Unopened mem used AccountTaken = ⊥
+Unopened mem used (BrokenLog place) =
+    (opens (length mem) used ≡ true) × Broken (take used mem) place
+Unopened mem used other = ⊥
 
 -- what opens is a journal of this memory whose saved form is the bytes in use
 pub record Opened (mem : List ℕ) (used : ℕ) (l : Meaning) : Type 0 where

@@ -1,21 +1,27 @@
 -- What stands at the front of some bytes: a record, or what is wrong there. What is wrong is judged in the order in
 -- which the faults are listed.
-use Rattle.std.specs.Prelude.{ℕ, ◌+◌, ◌*◌, cond, ◌&&◌, List, [], ◌∷◌, length, take, drop, Some, None, Ok, Err, Option, Result, ◌==◌, nat_lt, slice_index}
+use Rattle.std.specs.Prelude.{ℕ, ◌+◌, Bool, cond, ◌&&◌, List, [], ◌∷◌, length, take, drop, Some, None, Ok, Err, Option, Result, ◌==◌, nat_lt, slice_index}
 use Rattle.std.specs.Borrow.{Bor}
 use Rattle.wire.specs.Limits.{message_limit}
+use Rattle.wire.specs.Numbers.{number}
 use Rattle.logs.specs.declared.records.Mark.{Mark}
 use Rattle.logs.specs.declared.records.Mark.TheVariants.{Session, Message}
 use Rattle.logs.specs.declared.records.RecordFault.{RecordFault}
 use Rattle.logs.specs.declared.records.RecordFault.TheVariants.{CutShort, UnknownMark, BadSession, MessageTooLong, NoSession}
+use Rattle.logs.specs.Format.{mark_bytes}
+
+-- two bytes write this mark
+abbrev pub is_mark : Mark → ℕ → ℕ → Bool
+is_mark mark x y = x == slice_index (mark_bytes mark) 0 && y == slice_index (mark_bytes mark) 1
 
 abbrev pub mark_of : ℕ → ℕ → Result Mark RecordFault
 mark_of x y =
-    cond (x == 0x42 && y == 0x53) (Ok Session)
-    (cond (x == 0x4D && y == 0x47) (Ok Message) (Err UnknownMark))
+    cond (is_mark Session x y) (Ok Session)
+    (cond (is_mark Message x y) (Ok Message) (Err UnknownMark))
 
 -- the length that a record's head tells
 abbrev pub length_of : List ℕ → ℕ
-length_of b = slice_index b 2 + 256 * slice_index b 3
+length_of b = number (slice_index b 2 ∷ slice_index b 3 ∷ [])
 
 abbrev pub body_of : List ℕ → List ℕ
 body_of b = take (length_of b) (drop 4 b)
@@ -30,14 +36,18 @@ session_in Message body = Err BadSession
 -- the message that a record holds, under session s
 abbrev pub message_in : ℕ → Mark → List ℕ → Result (List ℕ) RecordFault
 message_in s Session body = Err BadSession
-message_in s Message body = cond (nat_lt message_limit (length body)) (Err MessageTooLong) (cond (s == 0) (Err NoSession) (Ok body))
+message_in s Message body =
+    cond (nat_lt message_limit (length body)) (Err MessageTooLong)
+    (cond (s == 0) (Err NoSession) (Ok body))
 
-abbrev pub marked : {X : Type 0} → Result Mark RecordFault → (Mark → Result X RecordFault) → Result X RecordFault
+abbrev pub marked : {X : Type 0} → Result Mark RecordFault → (Mark → Result X RecordFault) →
+    Result X RecordFault
 marked (Ok mark) held = held mark
 marked (Err f) held = Err f
 
 -- the record at the front, handed on with its mark and its body
-abbrev pub framed : {X : Type 0} → List ℕ → (Mark → List ℕ → Result X RecordFault) → Result X RecordFault
+abbrev pub framed : {X : Type 0} → List ℕ → (Mark → List ℕ → Result X RecordFault) →
+    Result X RecordFault
 framed b held =
     cond (nat_lt (length b) 4) (Err CutShort)
     (cond (nat_lt (length b) (4 + length_of b)) (Err CutShort)

@@ -2,15 +2,14 @@
 //!
 //! Reading and adding a message take the same time whatever its number, beside the copy. Left out: how the pool and
 //! the table are saved.
-ghost use Rattle.std.specs.Prelude.{◌≡◌, ◌≤◌, true, false, vec_len, MatchResult};
-ghost use Rattle.wire.specs.declared.refusals.Refusal.TheVariants as R;
+ghost use Rattle.std.specs.Prelude.{◌≡◌, ◌≤◌, true, vec_len};
+ghost use Rattle.wire.specs.Making.{Makes};
 ghost use Rattle.message_log.specs.Calls.{Lent};
 ghost use Rattle.packed_messages.specs.Kept.{kept};
 ghost use Rattle.logs.specs.Pooled.{places_limit, makes, pooled};
 
-use packed_messages::copy_out;
-use packed_messages::PackedMessages;
 use message_log::{Log, SIZE_LIMIT};
+use packed_messages::{PackedMessages, copy_out};
 use wire::{Refusal, Unmade, allow};
 
 /// The largest pool, in bytes.
@@ -29,7 +28,9 @@ pub struct Indexed {
 impl Indexed {
     /// An empty log without a session over this pool and this table.
     pub fn new(pool: Vec<u8>, ends: Vec<u32>) -> Result<Indexed, Unmade<(Vec<u8>, Vec<u32>)>>
-        ensures { MatchResult result (λ l. (makes (vec_len pool) (vec_len ends) ≡ true) × (⟦<Indexed as Log>⟧.view l ≡ pooled 0 pool.items ends.items 0)) (λ u. (makes (vec_len pool) (vec_len ends) ≡ false) × (u.refusal ≡ R.SizeOutOfRange) × (u.given ≡ (pool, ends))) }
+        ensures { let allowed = makes (vec_len pool) (vec_len ends) ≡ true in
+            let empty = pooled 0 pool.items ends.items 0 in
+            Makes allowed (λ l. ⟦<Indexed as Log>⟧.view l ≡ empty) (pool, ends) result }
     {
         let fits = pool.len() <= POOL_LIMIT && ends.len() <= TABLE_LIMIT;
         let (pool, mut ends) = allow(fits, (pool, ends))?;

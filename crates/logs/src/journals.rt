@@ -6,9 +6,9 @@ ghost use Rattle.logs.specs.Layout.{Formed, Indexed};
 pub mod entries;
 pub mod opening;
 
-use packed_messages::PackedMessages;
 use crate::records::Mark;
 use message_log::SIZE_LIMIT;
+use packed_messages::PackedMessages;
 
 /// The least memory of a journal, in bytes: the session record.
 pub const JOURNAL_LEAST: usize = 5;

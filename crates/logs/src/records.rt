@@ -5,6 +5,12 @@ ghost use Rattle.logs.specs.Reading.{mark_of};
 
 use thiserror::Error;
 
+/// The mark of the record of a session.
+const SESSION_MARK: [u8; 2] = *b"BS";
+
+/// The mark of the record of a message.
+const MESSAGE_MARK: [u8; 2] = *b"MG";
+
 /// What a record holds.
 #[derive(Clone, Copy)]
 pub enum Mark {
@@ -46,9 +52,9 @@ impl TryFrom<[u8; 2]> for Mark {
     ghost try_from_gives = { λ bytes r. r ≡ mark_of (slice_index bytes 0) (slice_index bytes 1) };
 
     fn try_from(bytes: [u8; 2]) -> Result<Mark, RecordFault> {
-        match &bytes {
-            b"BS" => Ok(Mark::Session),
-            b"MG" => Ok(Mark::Message),
+        match bytes {
+            SESSION_MARK => Ok(Mark::Session),
+            MESSAGE_MARK => Ok(Mark::Message),
             _ => Err(RecordFault::UnknownMark),
         }
     }
@@ -60,8 +66,8 @@ impl From<Mark> for [u8; 2] {
 
     fn from(mark: Mark) -> [u8; 2] {
         match mark {
-            Mark::Session => *b"BS",
-            Mark::Message => *b"MG",
+            Mark::Session => SESSION_MARK,
+            Mark::Message => MESSAGE_MARK,
         }
     }
 }

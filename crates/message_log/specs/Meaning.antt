@@ -28,17 +28,13 @@ taken over ms = sum_by (λ m. length m + over) ms
 abbrev pub room : Meaning → ℕ
 room l = l.size - taken l.overhead l.messages
 
--- the log with other contents: its three numbers stay
-abbrev pub holding : Meaning → ℕ → List (List ℕ) → Meaning
-holding l s ms = record { session = s; messages = ms; size = l.size; overhead = l.overhead; places = l.places }
-
--- a session is begun: the list is empty
+-- a session is begun: the list is empty, and the three numbers stay
 abbrev pub begun : Meaning → ℕ → Meaning
-begun l s = holding l s []
+begun l s = record l { session = s; messages = [] }
 
 -- one message more, at the end
 abbrev pub added : Meaning → List ℕ → Meaning
-added l m = holding l l.session (l.messages ++ m ∷ [])
+added l m = record l { messages = l.messages ++ m ∷ [] }
 
 -- what holds of every log
 pub record Sound (l : Meaning) : Type 0 where

@@ -34,17 +34,20 @@ pub trait Log {
     /// Sets the session and empties the list.
     fn begin(&mut self, session: u8) -> Result<(), Refusal>
         ensures value { result ≡ begins session }
-        ensures after { view self.new ≡ settled result (begun (view self.old) session) (view self.old) };
+        ensures after { let before = view self.old in
+            view self.new ≡ settled result (begun before session) before };
 
     /// Adds a message at the end.
     fn append(&mut self, message: &[u8]) -> Result<(), Refusal>
         ensures value { result ≡ takes (view self.old) (length message.now) }
-        ensures after { view self.new ≡ settled result (added (view self.old) message.now) (view self.old) };
+        ensures after { let before = view self.old in
+            view self.new ≡ settled result (added before message.now) before };
 
     /// Copies message n to the front of the buffer, leaves the buffer's rest, and says how long the message is.
     fn read(&self, n: usize, buffer: &mut [u8]) -> Result<usize, Refusal>
         ensures value { result ≡ reads (view self.now) n (length buffer.old) }
-        ensures after { buffer.new ≡ settled result (fronted (nth (view self.now) n) buffer.old) buffer.old };
+        ensures after { let message = nth (view self.now) n in
+            buffer.new ≡ settled result (fronted message buffer.old) buffer.old };
 
     ghost sound: { (s : Self) → Sound (view s) };
 }

@@ -17,4 +17,5 @@ kept base gap p = filed p.session p.memory.items (edge base p.ends.items) gap (l
 
 -- where message n begins with its gap: behind the base and the messages before it
 abbrev pub placed : ℕ → Meaning → ℕ → Result ℕ Refusal
-placed base l n = cond (has l n) (Ok (base + taken l.overhead (take (n - 1) l.messages))) (Err NoSuchMessage)
+placed base l n =
+    cond (has l n) (Ok (base + taken l.overhead (take (n - 1) l.messages))) (Err NoSuchMessage)

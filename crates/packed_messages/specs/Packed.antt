@@ -21,7 +21,8 @@ parts pool at gap n = map (part pool at gap) (range_with_len 0 n)
 
 -- from one edge to the next there is the gap and a message that is not too long
 abbrev pub Rising : (ℕ → ℕ) → ℕ → ℕ → Type 0
-Rising at gap n = (k : ℕ) → k < n → (at k + gap ≤ at (suc k)) × (at (suc k) ≤ at k + gap + message_limit)
+Rising at gap n =
+    (k : ℕ) → k < n → (at k + gap ≤ at (suc k)) × (at (suc k) ≤ at k + gap + message_limit)
 
 -- the log that holds these messages
 abbrev pub filed : ℕ → List ℕ → (ℕ → ℕ) → ℕ → ℕ → ℕ → ℕ → Meaning

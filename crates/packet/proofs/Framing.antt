@@ -8,6 +8,7 @@ use Rattle.wire.specs.declared.letters.Letter.TheVariants as L
 use Rattle.wire.specs.Limits.{length_limit}
 use Rattle.wire.specs.Letters.{letter_byte, shortest, longest, allowed}
 use Rattle.wire.proofs.Numbers.{number_little}
+use Rattle.wire.specs.Numbers.{little, number}
 use Rattle.wire.proofs.Coded.{letter_back}
 use Rattle.packet.specs.Values.{framed}
 use Rattle.packet.specs.Decoding.{decode, counted, head_number, bodied, opened, content, wholly, next}
@@ -53,7 +54,7 @@ pub counted_good : (n : ℕ) → 0 < n → n ≤ length_limit → Ok n ≡ count
 counted_good n l h = sym (cond-false _ _ _ (ne_eqb n 0 (λ e. omega arith)) ∙ cond-false _ _ _ (le-ltb length_limit n h))
 
 -- the head of a packet holds its length number
-pub head_of_little : (n : ℕ) → n ≤ length_limit → n % 256 + n / 256 % 256 * 256 ≡ n
+pub head_of_little : (n : ℕ) → n ≤ length_limit → number (little 2 n) ≡ n
 head_of_little n h = omega (arith, number_little 2 n (omega (arith, limit_fits)))
 
 pub decode_framed : (b : ℕ) (body rest : List ℕ) → length body + 1 ≤ length_limit → decode (framed b body ++ rest) ≡ wholly (opened b body)
@@ -63,8 +64,8 @@ decode_framed b body rest h =
     let k : length bs ≡ length body + length rest + 3 = omega (arith, length-append body rest) in
     let m : n - 1 ≡ length body = omega arith in
     let t : take (n - 1) (body ++ rest) ≡ body = take_at body rest (n - 1) (sym m) in
-    let o : n % 256 + n / 256 % 256 * 256 ≡ n = head_of_little n h in
-    let s : Ok n ≡ counted (n % 256 + n / 256 % 256 * 256) = rw o (counted_good n (omega arith) h) in
+    let o : number (little 2 n) ≡ n = head_of_little n h in
+    let s : Ok n ≡ counted (number (little 2 n)) = rw o (counted_good n (omega arith) h) in
     decode_whole bs n (omega arith) s (omega arith) ∙ ap (λ (x : List ℕ). wholly (opened b x)) t
 
 -- a known letter and an allowed length leave the content to decide

@@ -7,16 +7,26 @@ use Rattle.wire.specs.declared.statuses.Status.TheVariants.{Accepted}
 use Rattle.packet.specs.Values.{login_response, sequenced}
 use Rattle.packet.specs.Decoding.{Decoded, part, whole, decode}
 
-pub record Example : Type 0 where
+pub record PacketExample : Type 0 where
   pub bytes : List ℕ
   pub says : Result Decoded PacketFault
 
-abbrev pub examples : List Example
+abbrev pub examples : List PacketExample
 examples =
     -- a login is accepted: session 7, highest number 1
-    record { bytes = 0x0B ∷ 0x00 ∷ 0x52 ∷ 0x20 ∷ 0x07 ∷ 0x01 ∷ 0x00 ∷ 0x00 ∷ 0x00 ∷ 0x00 ∷ 0x00 ∷ 0x00 ∷ 0x00 ∷ []; says = Ok (whole (login_response Accepted 7 1)) }
+    record {
+      bytes =
+          0x0B ∷ 0x00 ∷ 0x52 ∷ 0x20 ∷ 0x07
+          ∷ 0x01 ∷ 0x00 ∷ 0x00 ∷ 0x00 ∷ 0x00 ∷ 0x00 ∷ 0x00 ∷ 0x00 ∷ [];
+      says = Ok (whole (login_response Accepted 7 1));
+    }
     -- sequenced message 1
-    ∷ record { bytes = 0x0B ∷ 0x00 ∷ 0x53 ∷ 0x01 ∷ 0x00 ∷ 0x00 ∷ 0x00 ∷ 0x00 ∷ 0x00 ∷ 0x00 ∷ 0x00 ∷ 0x41 ∷ 0x42 ∷ []; says = Ok (whole (sequenced 1 (0x41 ∷ 0x42 ∷ []))) }
+    ∷ record {
+      bytes =
+          0x0B ∷ 0x00 ∷ 0x53
+          ∷ 0x01 ∷ 0x00 ∷ 0x00 ∷ 0x00 ∷ 0x00 ∷ 0x00 ∷ 0x00 ∷ 0x00 ∷ 0x41 ∷ 0x42 ∷ [];
+      says = Ok (whole (sequenced 1 (0x41 ∷ 0x42 ∷ [])));
+    }
     -- synchronization complete has no body
     ∷ record { bytes = 0x02 ∷ 0x00 ∷ 0x43 ∷ 0x00 ∷ []; says = Err WrongLength }
     -- length numbers: none, one over the largest, the largest
@@ -26,4 +36,4 @@ examples =
     ∷ []
 
 abbrev pub ExamplesHold : Type 0
-ExamplesHold = AllByRecursion (λ (x : Example). decode x.bytes ≡ x.says) examples
+ExamplesHold = AllByRecursion (λ (x : PacketExample). decode x.bytes ≡ x.says) examples

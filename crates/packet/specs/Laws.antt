@@ -3,7 +3,7 @@ use Rattle.std.specs.Prelude.{◌≡◌, ℕ, ◌<◌, ◌≤◌, List, ◌++◌
 use Rattle.std.specs.List.{AllByRecursion}
 use Rattle.wire.specs.declared.faults.Field.TheVariants as Field
 use Rattle.wire.specs.declared.faults.PacketFault.{PacketFault}
-use Rattle.wire.specs.declared.faults.PacketFault.TheVariants.{LengthZero, LengthOverLimit, UnknownLetter, OutOfPlace, WrongLength, WrongContent}
+use Rattle.wire.specs.declared.faults.PacketFault.TheVariants.{LengthZero, LengthOverLimit, OutOfPlace, WrongContent}
 use Rattle.wire.specs.Limits.{length_limit}
 use Rattle.packet.specs.Values.{Value, Valid, encode}
 use Rattle.packet.specs.Decoding.{Decoded, part, whole, head_number, decode}
@@ -30,7 +30,8 @@ IgnoresRest = (bs rest : List ℕ) → (decode bs ≢ Ok part) → decode (bs ++
 
 -- a proper beginning of a good packet is a part: no packet, and no fault
 abbrev pub BeginningsAreParts : Type 0
-BeginningsAreParts = (v : Value) (k : ℕ) → Valid v → k < length (encode v) → decode (take k (encode v)) ≡ Ok part
+BeginningsAreParts =
+    (v : Value) (k : ℕ) → Valid v → k < length (encode v) → decode (take k (encode v)) ≡ Ok part
 
 -- a length number that is 0 or over the limit is told as soon as its two bytes are in
 pub record ToldEarly (bs : List ℕ) : Type 0 where
@@ -43,17 +44,11 @@ TellsEarly = (bs : List ℕ) → 2 ≤ length bs → ToldEarly bs
 -- the faults that a reader can tell which knows of no phase: no letter is out of place, and a content is
 -- wrong only in a status or a reason
 abbrev pub Phaseless : PacketFault → Type 0
-Phaseless LengthZero = Unit {0}
-Phaseless LengthOverLimit = Unit {0}
-Phaseless UnknownLetter = Unit {0}
 Phaseless OutOfPlace = ⊥
-Phaseless WrongLength = Unit {0}
 Phaseless (WrongContent Field.Status) = Unit {0}
 Phaseless (WrongContent Field.Reason) = Unit {0}
-Phaseless (WrongContent Field.Session) = ⊥
-Phaseless (WrongContent Field.SequenceNumber) = ⊥
-Phaseless (WrongContent Field.Start) = ⊥
-Phaseless (WrongContent Field.End) = ⊥
+Phaseless (WrongContent other) = ⊥
+Phaseless other = Unit {0}
 
 abbrev pub KnowsNoPhase : Type 0
 KnowsNoPhase = (bs : List ℕ) (fault : PacketFault) → decode bs ≡ Err fault → Phaseless fault
@@ -65,7 +60,8 @@ pub record Told (bs : List ℕ) (r : Result Decoded PacketFault) : Type 0 where
   -- a packet that is accepted stands at the front as it is written
   pub front : (v : Value) → r ≡ Ok (whole v) → Front v bs
   -- and any proper beginning of it is a part
-  pub beginnings : (v : Value) (k : ℕ) → r ≡ Ok (whole v) → k < length (encode v) → decode (take k bs) ≡ Ok part
+  pub beginnings : (v : Value) (k : ℕ) → r ≡ Ok (whole v) → k < length (encode v) →
+      decode (take k bs) ≡ Ok part
   -- bytes after the packet change nothing
   pub rest : (more : List ℕ) → (r ≢ Ok part) → decode (bs ++ more) ≡ r
   -- a bad length number is told by its two bytes

@@ -20,4 +20,5 @@ ordinal L.Test = 11
 
 -- one more of a letter, up to the largest count
 abbrev pub raised : List ℕ → Letter → List ℕ
-raised counts l = slice_set counts (ordinal l) (min (slice_index counts (ordinal l) + 1) (2 ^ 64 - 1))
+raised counts l =
+    slice_set counts (ordinal l) (min (slice_index counts (ordinal l) + 1) (2 ^ 64 - 1))

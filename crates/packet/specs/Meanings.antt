@@ -7,7 +7,8 @@ use Rattle.packet.specs.Values.{Value, login_request, login_response, sequenced,
 use Rattle.packet.specs.Decoding.{Decoded, part, whole, next}
 
 abbrev pub value_of : Packet → Value
-value_of (P.LoginRequest l) = login_request l.version.now l.user.now l.computer.now l.protocol.now l.session l.number
+value_of (P.LoginRequest l) =
+    login_request l.version.now l.user.now l.computer.now l.protocol.now l.session l.number
 value_of (P.LoginResponse t s n) = login_response t s n
 value_of (P.Sequenced n m) = sequenced n m.now
 value_of (P.Unsequenced m) = unsequenced m.now

@@ -75,15 +75,8 @@ Fields (login_request v u c p s n) =
     (length v ≡ 5) × (length u ≡ 5) × (length c ≡ 8) × (length p ≡ 8) × (s < 256) × (n < 256 ^ 8)
 Fields (login_response t s n) = (s < 256) × (n < 256 ^ 8)
 Fields (sequenced n m) = n < 256 ^ 8
-Fields (unsequenced m) = Unit {0}
-Fields synchronization_complete = Unit {0}
 Fields (retransmission_request a e) = (a < 256 ^ 8) × (e < 256 ^ 8)
-Fields (logout_request r t) = Unit {0}
-Fields (good_bye r t) = Unit {0}
-Fields end_of_session = Unit {0}
-Fields hub_heartbeat = Unit {0}
-Fields seat_heartbeat = Unit {0}
-Fields (test t) = Unit {0}
+Fields other = Unit {0}
 
 -- what a packet can carry: its fields fit, and its letter allows its length
 pub record Valid (v : Value) : Type 0 where

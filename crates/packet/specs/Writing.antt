@@ -6,30 +6,23 @@ use Rattle.wire.specs.declared.refusals.Refusal.{Refusal}
 use Rattle.wire.specs.declared.refusals.Refusal.TheVariants.{ShortBuffer, BadPacket}
 use Rattle.wire.specs.Limits.{length_limit}
 use Rattle.wire.specs.Letters.{allowed}
-use Rattle.packet.specs.Values.{Value, login_request, login_response, sequenced, unsequenced, synchronization_complete, retransmission_request, logout_request, good_bye, end_of_session, hub_heartbeat, seat_heartbeat, test, letter, length_number, encode}
+use Rattle.packet.specs.Values.{Value, login_request, letter, length_number, encode}
 use Rattle.packet.specs.Decoding.{part, whole, decode}
 use Rattle.packet.specs.Laws.{Bytes}
 
 -- whether the texts of a login request have their widths; no other packet has a text of a fixed width
 abbrev pub widths : Value → Bool
-widths (login_request v u c p s n) = length v == 5 && (length u == 5 && (length c == 8 && length p == 8))
-widths (login_response t s n) = true
-widths (sequenced n m) = true
-widths (unsequenced m) = true
-widths synchronization_complete = true
-widths (retransmission_request a e) = true
-widths (logout_request r t) = true
-widths (good_bye r t) = true
-widths end_of_session = true
-widths hub_heartbeat = true
-widths seat_heartbeat = true
-widths (test t) = true
+widths (login_request v u c p s n) =
+    length v == 5 && (length u == 5 && (length c == 8 && length p == 8))
+widths other = true
 
 -- the length number of a packet that can be read back; else its fault
 abbrev pub writable : Value → Result ℕ PacketFault
 writable v =
     cond (nat_lt length_limit (length_number v)) (Err LengthOverLimit)
-    (cond (allowed (letter v) (length_number v)) (cond (widths v) (Ok (length_number v)) (Err WrongLength)) (Err WrongLength))
+    (cond (allowed (letter v) (length_number v))
+    (cond (widths v) (Ok (length_number v)) (Err WrongLength))
+    (Err WrongLength))
 
 abbrev pub granting : Result ℕ PacketFault → Result ℕ Refusal
 granting (Ok n) = Ok (n + 2)
@@ -53,4 +46,5 @@ pub record Written (v : Value) (old new : List ℕ) (r : Result ℕ Refusal) : T
   -- and any proper beginning of it is a part
   pub beginnings : IfOk r (λ n. (k : ℕ) → k < n → decode (take k new) ≡ Ok part)
   -- a packet that is refused for a fault would not have been read back as itself
-  pub unreadable : (fault : PacketFault) → r ≡ Err (BadPacket fault) → (rest : List ℕ) → Bytes (encode v ++ rest) → decode (encode v ++ rest) ≢ Ok (whole v)
+  pub unreadable : (fault : PacketFault) → r ≡ Err (BadPacket fault) → (rest : List ℕ) →
+      Bytes (encode v ++ rest) → decode (encode v ++ rest) ≢ Ok (whole v)

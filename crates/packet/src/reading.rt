@@ -1,5 +1,5 @@
 //! The reader: the first packet of lent bytes, or a part of one, or a fault.
-ghost use Rattle.std.specs.Prelude.{◌≡◌, ◌+◌, ◌*◌, ◌<◌, true, length, take, drop, slice_index};
+ghost use Rattle.std.specs.Prelude.{◌≡◌, ◌+◌, ◌<◌, true, [], ◌∷◌, length, take, drop, slice_index};
 ghost use Rattle.wire.specs.declared.letters.Letter.TheVariants.{LoginResponse};
 ghost use Rattle.wire.specs.Limits.{length_limit};
 ghost use Rattle.wire.specs.Numbers.{number as number_of};
@@ -80,7 +80,7 @@ fn taken_apart<'a>(bytes: &'a [u8]) -> Result<Option<Packet<'a>>, PacketFault>
 // The length number in the first two bytes.
 #[inline(always)]
 fn length_number(low: u8, high: u8) -> Result<usize, PacketFault>
-    ensures { result ≡ counted (low + high * 256) }
+    ensures { result ≡ counted (number_of (low ∷ high ∷ [])) }
 {
     let length = usize::from(u16::from_le_bytes([low, high]));
     if length == 0 {

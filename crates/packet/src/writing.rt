@@ -66,7 +66,8 @@ impl Packet<'_> {
     #[inline(always)]
     fn writable(self) -> Result<usize, PacketFault>
         ensures answer { result ≡ writable_of (value_of self.entry) }
-        ensures valid { IfOk result (λ n. Valid (value_of self.entry) × (n ≡ length_number (value_of self.entry)) × (n ≤ length_limit)) }
+        ensures valid { let value = value_of self.entry in
+            IfOk result (λ n. Valid value × (n ≡ length_number value) × (n ≤ length_limit)) }
     {
         let size = self.size();
         if size > PACKET_LIMIT as u128 {

@@ -1,17 +1,15 @@
 -- Laws of runs.
-use Rattle.std.proofs.Common.{◌≡◌, ℕ, ◌<◌, ◌≤◌, min, Bool, true, false, cond, ◌⊎◌, List, [], ◌++◌, length, take, drop, Ok, Err, vec_items, Result, sym, refl, ap, ◌∙◌, subst, inl, inr, append_assoc, append-nil, arith, leb-false}
+use Rattle.std.proofs.Common.{◌≡◌, ℕ, ◌<◌, ◌≤◌, min, Bool, true, false, cond, List, [], ◌++◌, length, take, drop, Ok, Err, vec_items, Result, sym, refl, ap, ◌∙◌, subst, append_assoc, append-nil, arith, leb-false}
 use Rattle.std.proofs.lemmas.List.{nil_from_length, take_at, take_min, drop_at}
-use Rattle.std.proofs.lemmas.Bool.{cases_lt}
 use Rattle.std.specs.Result.{is_ok}
 use Rattle.wire.specs.declared.refusals.Refusal.{Refusal}
 use Rattle.wire.specs.declared.refusals.Refusal.TheVariants.{LineFull}
-use Rattle.wire.specs.Limits.{packet_limit}
-use Rattle.line.specs.Lines.{LineView, Sound, Put, Taken, fits, joined, cleared}
+use Rattle.line.specs.Lines.{LineView, Put, Taken, fits, joined, cleared}
 use Rattle.line.proofs.Takes.{taken_whole}
 use Rattle.pump.specs.declared.traces.Trace.{Trace}
 use Rattle.pump.specs.declared.traces.Act.{Act}
 use Rattle.pump.specs.declared.traces.Act.TheVariants as A
-use Rattle.pump.specs.Pumping.{Pump, pump, noted, next_piece, Noted, Step, put, refused, took, Steps, none, more, Offered, Pumped}
+use Rattle.pump.specs.Pumping.{Pump, pump, noted, next_piece, Noted, Step, put, refused, took, Steps, none, more, start, Offered, Pumped}
 
 pub steps_then : {input : List ℕ} {size : ℕ} {s t u : Pump} → Steps input size s t → Steps input size t u → Steps input size s u
 steps_then a none = a
@@ -112,9 +110,6 @@ module _ (v : LineView) (a : Trace) (piece : List ℕ) (w : LineView) (b : Trace
     pub stayed_out : (r : Bool) → r ≡ false → Offered v a piece r w b → Step input size (pump v fed a) (pump w fed b)
     stayed_out true e h = cc
     stayed_out false e h = h.0 input size fed i
-
-abbrev start : LineView → Pump
-start v = record { line = v; fed = []; out = []; events = [] }
 
 -- before the first event
 pub begun : (input : List ℕ) (size : ℕ) (v : LineView) (a : Trace) → vec_items a.events ≡ [] → vec_items a.out ≡ [] →

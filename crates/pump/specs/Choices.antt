@@ -3,18 +3,19 @@ use Rattle.std.specs.Prelude.{◌≡◌, List, [], ◌∷◌, Some, None, Option
 use Rattle.pump.specs.declared.choices.Choice.{Choice}
 use Rattle.pump.specs.declared.choices.Layers.{Layers}
 use Rattle.pump.specs.declared.choices.Layers.TheVariants as L
-use Rattle.pump.specs.declared.words.Word.{Word}
-use Rattle.pump.specs.declared.words.Word.TheVariants as W
+use Rattle.pump.specs.declared.arguments.Argument.{Argument}
+use Rattle.pump.specs.declared.arguments.Argument.TheVariants as A
 
-abbrev pub layered : Layers → List Word → List Word
-layered L.Bare words = words
-layered (L.Once pace) words = W.Paced ∷ W.Number pace ∷ words
-layered (L.Twice outer inner) words = W.Paced ∷ W.Number outer ∷ W.Paced ∷ W.Number inner ∷ words
+abbrev pub layered : Layers → List Argument → List Argument
+layered L.Bare arguments = arguments
+layered (L.Once pace) arguments = A.Paced ∷ A.Number pace ∷ arguments
+layered (L.Twice outer inner) arguments =
+    A.Paced ∷ A.Number outer ∷ A.Paced ∷ A.Number inner ∷ arguments
 
-abbrev pub written : Choice → List Word
-written c = layered c.layers (W.Kind c.kind ∷ W.Number c.piece ∷ [])
+abbrev pub written : Choice → List Argument
+written c = layered c.layers (A.Kind c.kind ∷ A.Number c.piece ∷ [])
 
 -- The choice that is so written, or none if there is none.
-abbrev pub Chooses : List Word → Option Choice → Type 0
-Chooses words (Some c) = words ≡ written c
-Chooses words None = (c : Choice) → words ≢ written c
+abbrev pub Chooses : List Argument → Option Choice → Type 0
+Chooses arguments (Some c) = arguments ≡ written c
+Chooses arguments None = (c : Choice) → arguments ≢ written c

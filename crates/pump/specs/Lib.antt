@@ -1,4 +1,4 @@
-pub mod Words
+pub mod Arguments
 pub mod Choices
 pub mod Passing
 pub mod Tallies

@@ -9,8 +9,8 @@ use Rattle.pump.specs.declared.traces.Trace.{Trace}
 use Rattle.pump.specs.declared.choices.Choice.{Choice}
 use Rattle.pump.specs.declared.choices.Layers.{Layers}
 use Rattle.pump.specs.declared.choices.Layers.TheVariants as L
-use Rattle.pump.specs.declared.words.Kind.{Kind}
-use Rattle.pump.specs.declared.words.Kind.TheVariants as K
+use Rattle.pump.specs.declared.arguments.Kind.{Kind}
+use Rattle.pump.specs.declared.arguments.Kind.TheVariants as K
 
 abbrev pub kind_view : Kind → LineView
 kind_view K.Ring = fresh smallest_size packet_limit
@@ -41,4 +41,5 @@ Allowed choice = PieceLength choice.piece × LayersAllowed choice.layers
 -- The numbers are allowed, and the trace is that of a whole run with the chosen line.
 abbrev pub Passes : Choice → List ℕ → Trace → Type 0
 Passes choice input trace =
-    Allowed choice × ((w : LineView) × Pumped (chosen_view choice.layers choice.kind) input choice.piece trace w)
+    let line = chosen_view choice.layers choice.kind in
+    Allowed choice × ((w : LineView) × Pumped line input choice.piece trace w)

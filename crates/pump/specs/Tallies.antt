@@ -6,9 +6,9 @@ use Rattle.pump.specs.declared.traces.Event.{Event}
 use Rattle.pump.specs.declared.tallies.Tally.{Tally}
 
 abbrev pub counted : Tally → Act → Tally
-counted t A.Put = record { puts = t.puts + 1; refusals = t.refusals; takes = t.takes }
-counted t A.Refused = record { puts = t.puts; refusals = t.refusals + 1; takes = t.takes }
-counted t A.Take = record { puts = t.puts; refusals = t.refusals; takes = t.takes + 1 }
+counted t A.Put = record t { puts = t.puts + 1 }
+counted t A.Refused = record t { refusals = t.refusals + 1 }
+counted t A.Take = record t { takes = t.takes + 1 }
 
 abbrev pub tallied_from : Tally → List Event → Tally
 tallied_from t [] = t

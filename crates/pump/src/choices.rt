@@ -1,7 +1,7 @@
 //! What a command line chooses.
 ghost use Rattle.pump.specs.Choices.{Chooses};
 
-use crate::words::{Kind, Word};
+use crate::arguments::{Argument, Kind};
 
 /// The pacing layers over a line, the outer one first.
 // No list of numbers: with each layer more the line has another type, so each number of layers is a case.
@@ -19,21 +19,21 @@ pub struct Choice {
     pub piece: usize,
 }
 
-/// The choice that the words make.
-pub fn choose(words: &[Word]) -> Option<Choice>
-    ensures { Chooses words.now result }
+/// The choice that the arguments make.
+pub fn choose(arguments: &[Argument]) -> Option<Choice>
+    ensures { Chooses arguments.now result }
 {
-    let [layers @ .., Word::Kind(kind), Word::Number(piece)] = words else {
+    let [layers @ .., Argument::Kind(kind), Argument::Number(piece)] = arguments else {
         return None;
     };
     let layers = match layers {
         [] => Layers::Bare,
-        [Word::Paced, Word::Number(pace)] => Layers::Once(*pace),
+        [Argument::Paced, Argument::Number(pace)] => Layers::Once(*pace),
         [
-            Word::Paced,
-            Word::Number(outer),
-            Word::Paced,
-            Word::Number(inner),
+            Argument::Paced,
+            Argument::Number(outer),
+            Argument::Paced,
+            Argument::Number(inner),
         ] => Layers::Twice(*outer, *inner),
         _ => return None,
     };

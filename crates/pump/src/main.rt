@@ -5,31 +5,31 @@
 //! the smallest full size that a line may have.
 #![tactic(auto)]
 
-mod traces;
+mod arguments;
 mod choices;
 mod passing;
 mod pieces;
 mod pumpers;
 mod runs;
 mod tallies;
-mod words;
+mod traces;
 
-use crate::traces::Trace;
 use crate::tallies::{Tally, tally_of};
+use crate::traces::Trace;
 use anyhow::anyhow;
+use arguments::{Argument, argument_of};
 use choices::{Choice, choose};
 use passing::pass;
 use std::env;
 use std::io::Read;
-use words::{Word, word_of};
 
 /// The choice that the arguments make.
 fn chosen(rt: &HostRuntime) -> anyhow::Result<Choice> {
-    let words: Vec<Word> = env::args(rt)?
+    let arguments: Vec<Argument> = env::args(rt)?
         .skip(1)
-        .map(|argument| word_of(argument.as_str()))
+        .map(|argument| argument_of(argument.as_str()))
         .collect(rt.alloc())?;
-    choose(words.as_slice()).ok_or_else(|| anyhow!(
+    choose(arguments.as_slice()).ok_or_else(|| anyhow!(
         "usage: pump [paced NUMBER [paced NUMBER]] ring|straight PIECE"
     ))
 }

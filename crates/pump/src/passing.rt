@@ -5,11 +5,11 @@ ghost use Rattle.line.specs.Lines.{LineView};
 ghost use Rattle.pump.specs.Pumping.{Pumped};
 ghost use Rattle.pump.specs.Passing.{made_view, PaceAllowed, Allowed, Passes};
 
-use crate::traces::Trace;
+use crate::arguments::Kind;
 use crate::choices::{Choice, Layers};
 use crate::pieces::PieceSize;
 use crate::runs::run;
-use crate::words::Kind;
+use crate::traces::Trace;
 use line::{Line, SMALLEST_SIZE};
 use lines::{AnyLine, Paced, Ring, Straight};
 use std::alloc::Global;
@@ -17,7 +17,8 @@ use wire::Refusal;
 
 /// An empty line of the kind, with a pacing layer over it or none.
 fn make_line(heap: Global, kind: Kind, pace: Option<usize>) -> Result<AnyLine, Refusal>
-    ensures made { IfOk result (λ l. PaceAllowed pace × (⟦<AnyLine as Line>⟧.view l ≡ made_view kind pace)) }
+    ensures made { let empty = made_view kind pace in
+        IfOk result (λ l. PaceAllowed pace × (⟦<AnyLine as Line>⟧.view l ≡ empty)) }
     ensures refused { IfErr result (λ e. (e ≡ R.SizeOutOfRange → PaceAllowed pace → ⊥)) }
 {
     let bytes = vec![in heap; 0u8; SMALLEST_SIZE]?;
@@ -32,19 +33,22 @@ fn make_line(heap: Global, kind: Kind, pace: Option<usize>) -> Result<AnyLine, R
     }
 }
 
-/// What a run with this line did. Want of memory is a refusal.
+/// The trace of a run with this line. Want of memory is a refusal.
 fn through<L: Line + Drop>(
     heap: Global,
     mut line: L,
     input: &[u8],
     piece: PieceSize,
 ) -> Result<Trace, Refusal>
-    ensures { MatchResult result (λ trace. (w : LineView) × Pumped (L.Line.view line) input.now piece.bytes trace w) (λ e. e ≡ R.OutOfMemory) }
+    ensures { let before = L.Line.view line in
+        MatchResult result
+        (λ trace. (w : LineView) × Pumped before input.now piece.bytes trace w)
+        (λ e. e ≡ R.OutOfMemory) }
 {
     Ok(run(heap, &mut line, input, piece)?)
 }
 
-/// Passes the input through the chosen line, and gives the trace of it.
+/// Passes the input through the chosen line, and gives the trace.
 pub fn pass(heap: Global, choice: Choice, input: &[u8]) -> Result<Trace, Refusal>
     ensures made { IfOk result (λ trace. Passes choice input.now trace) }
     ensures refused { IfErr result (λ e. (e ≡ R.SizeOutOfRange → Allowed choice → ⊥)) }

@@ -16,7 +16,9 @@ pub struct PieceSize {
 impl PieceSize {
     /// The size, or a refusal if it is outside the rules.
     pub fn new(bytes: usize) -> Result<PieceSize, Refusal>
-        ensures { MatchResult result (λ p. p.bytes ≡ bytes) (λ e. (e ≡ SizeOutOfRange) × (PieceLength bytes → ⊥)) }
+        ensures { MatchResult result
+            (λ p. p.bytes ≡ bytes)
+            (λ e. (e ≡ SizeOutOfRange) × (PieceLength bytes → ⊥)) }
     {
         if !is_piece_length(bytes) {
             return Err(Refusal::SizeOutOfRange);

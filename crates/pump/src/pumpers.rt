@@ -2,8 +2,8 @@
 ghost use Rattle.std.specs.Prelude.{◌≡◌, [], IfOk, vec_len};
 ghost use Rattle.line.specs.Sizes.{PieceLength};
 
-use crate::traces::Trace;
 use crate::pieces::PieceSize;
+use crate::traces::Trace;
 use std::alloc::{AllocError, Global};
 
 /// The buffer that is taken into, as long as a piece, and the trace of what was done.
@@ -18,7 +18,8 @@ pub(crate) struct Pumper {
 impl Pumper {
     /// A pumper for pieces of this size, that has done nothing.
     pub(crate) fn new(heap: Global, piece: PieceSize) -> Result<Pumper, AllocError>
-        ensures { IfOk result (λ p. (vec_len p.buffer ≡ piece.bytes) × (p.trace.events.items ≡ []) × (p.trace.out.items ≡ [])) }
+        ensures buffer { IfOk result (λ p. vec_len p.buffer ≡ piece.bytes) }
+        ensures trace { IfOk result (λ p. (p.trace.events.items ≡ []) × (p.trace.out.items ≡ [])) }
     {
         let buffer = vec![in heap; 0u8; piece.bytes()]?;
         Ok(Pumper {

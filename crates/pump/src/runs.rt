@@ -4,16 +4,18 @@ ghost use Rattle.wire.specs.Limits.{packet_limit};
 ghost use Rattle.pump.specs.Pumping.{Pumped};
 ghost use Rattle.pump.specs.Pumpers.{Drew, Drawn, Sent};
 
-use crate::traces::{Trace, Act};
 use crate::pieces::PieceSize;
 use crate::pumpers::Pumper;
+use crate::traces::{Act, Trace};
 use line::Line;
 use std::alloc::{AllocError, Global};
 
 impl Pumper {
     /// Takes once.
     fn draw<L: Line>(&mut self, line: &mut L) -> Result<(), AllocError>
-        ensures { OnOk result (Drew (L.Line.view line.old) self.old (L.Line.view line.new) self.new) }
+        ensures { let before = L.Line.view line.old in
+            let after = L.Line.view line.new in
+            OnOk result (Drew before self.old after self.new) }
     {
         let taken = line.take(self.buffer.as_mut_slice());
         self.trace.receive(&self.buffer[..taken])?;
@@ -25,7 +27,9 @@ impl Pumper {
     // own test says.
     fn make_room<L: Line>(&mut self, line: &mut L, bytes: usize) -> Result<(), AllocError>
         requires { bytes ≤ packet_limit }
-        ensures { OnOk result (Drawn (L.Line.view line.old) self.old (L.Line.view line.new) self.new × (bytes ≤ (L.Line.view line.new).room)) }
+        ensures { let before = L.Line.view line.old in
+            let after = L.Line.view line.new in
+            OnOk result (Drawn before self.old after self.new × (bytes ≤ after.room)) }
     {
         while line.room() < bytes {
             self.draw(line)?;
@@ -35,7 +39,9 @@ impl Pumper {
 
     /// Takes until nothing waits.
     fn drain<L: Line>(&mut self, line: &mut L) -> Result<(), AllocError>
-        ensures { OnOk result (Drawn (L.Line.view line.old) self.old (L.Line.view line.new) self.new × (length (L.Line.view line.new).waiting ≡ 0)) }
+        ensures { let before = L.Line.view line.old in
+            let after = L.Line.view line.new in
+            OnOk result (Drawn before self.old after self.new × (length after.waiting ≡ 0)) }
     {
         while line.waiting() > 0 {
             self.draw(line)?;
@@ -46,7 +52,9 @@ impl Pumper {
     /// Puts a piece, after room was made for it if it was refused.
     fn send<L: Line>(&mut self, line: &mut L, piece: &[u8]) -> Result<(), AllocError>
         requires { length piece.now ≤ packet_limit }
-        ensures { OnOk result (Sent (L.Line.view line.old) self.old piece.now (L.Line.view line.new) self.new) }
+        ensures { let before = L.Line.view line.old in
+            let after = L.Line.view line.new in
+            OnOk result (Sent before self.old piece.now after self.new) }
     {
         if !self.trace.offer(line, piece)? {
             self.make_room(line, piece.len())?;
@@ -63,7 +71,9 @@ pub fn run<L: Line>(
     input: &[u8],
     piece: PieceSize,
 ) -> Result<Trace, AllocError>
-    ensures { IfOk result (λ trace. Pumped (L.Line.view line.old) input.now piece.bytes trace (L.Line.view line.new)) }
+    ensures { let before = L.Line.view line.old in
+        let after = L.Line.view line.new in
+        IfOk result (λ trace. Pumped before input.now piece.bytes trace after) }
 {
     let mut pumper = Pumper::new(heap, piece)?;
     line.clear();

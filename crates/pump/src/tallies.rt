@@ -13,7 +13,7 @@ pub struct Tally {
     pub takes: usize,
 }
 
-/// How many of the events did this.
+/// How many of the events are of this act.
 fn count_of(events: &[Event], act: Act) -> usize
     ensures { result ≡ count_by (λ (d : Event). ⟦<Act as PartialEq>⟧.eq d.act act) events.now }
 {

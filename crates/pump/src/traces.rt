@@ -3,8 +3,8 @@ ghost use Rattle.std.specs.Prelude.{◌≡◌, [], ◌++◌, OnOk, IfOk};
 ghost use Rattle.pump.specs.Pumping.{Noted, Offered};
 
 use line::Line;
-use std::fmt;
 use std::alloc::{AllocError, Global};
+use std::fmt;
 use wire::Refusal;
 
 /// What was done with a line.
@@ -57,7 +57,7 @@ pub struct Trace {
 }
 
 impl Trace {
-    /// A trace of nothing.
+    /// An empty trace.
     pub(crate) fn new(heap: Global) -> Trace
         ensures { (result.events.items ≡ []) × (result.out.items ≡ []) }
     {
@@ -89,7 +89,9 @@ impl Trace {
 
     /// Offers a piece to the line, and says whether it was granted.
     pub(crate) fn offer<L: Line>(&mut self, line: &mut L, piece: &[u8]) -> Result<bool, AllocError>
-        ensures { IfOk result (λ granted. Offered (L.Line.view line.old) self.old piece.now granted (L.Line.view line.new) self.new) }
+        ensures { let before = L.Line.view line.old in
+            let after = L.Line.view line.new in
+            IfOk result (λ granted. Offered before self.old piece.now granted after self.new) }
     {
         let granted = line.put(piece).is_ok();
         let act = if granted { Act::Put } else { Act::Refused };

@@ -18,7 +18,13 @@ held s = take s.length s.bytes
 -- a place is a slot.
 abbrev pub slotted : ℕ → List Slot → ℕ → Meaning
 slotted session slots n =
-    record { session = session; messages = map held (take n slots); size = length slots * message_limit; overhead = 0; places = length slots }
+    record {
+      session = session;
+      messages = map held (take n slots);
+      size = length slots * message_limit;
+      overhead = 0;
+      places = length slots;
+    }
 
 -- So many slots are left. A message that is not too long is taken just while there is one, and a session: the room
 -- refuses none.

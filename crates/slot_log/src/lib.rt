@@ -11,10 +11,10 @@ ghost use Rattle.slot_log.specs.Slotted.{slot_limit, slotted, Left};
 
 pub mod slot;
 
-use packed_messages::copy_out;
 use message_log::{Log, SIZE_LIMIT};
-use wire::{MESSAGE_LIMIT, Refusal, Unmade, allow};
+use packed_messages::copy_out;
 pub use slot::Slot;
+use wire::{MESSAGE_LIMIT, Refusal, Unmade, allow};
 
 /// The most slots.
 pub const SLOT_LIMIT: usize = SIZE_LIMIT / MESSAGE_LIMIT;
@@ -35,7 +35,8 @@ pub struct Slots {
 impl Slots {
     /// An empty log without a session over these slots, whatever they hold.
     pub fn new(slots: Vec<Slot>) -> Result<Slots, Unmade<Vec<Slot>>>
-        ensures { Makes (vec_len slots ≤ slot_limit) (λ s. ⟦<Slots as Log>⟧.view s ≡ slotted 0 slots.items 0) slots result }
+        ensures { let empty = slotted 0 slots.items 0 in
+            Makes (vec_len slots ≤ slot_limit) (λ s. ⟦<Slots as Log>⟧.view s ≡ empty) slots result }
     {
         let slots = allow(slots.len() <= SLOT_LIMIT, slots)?;
         Ok(Slots {

@@ -8,11 +8,11 @@ use Rattle.account.specs.Examples as accounts
 
 pub data Worked : Type 0 where
   -- bytes, and what a reader says of them
-  packet : packets.Example → Worked
+  packet : packets.PacketExample → Worked
   -- a saved log, or what a journal answers
-  journal : journals.Example → Worked
+  journal : journals.JournalExample → Worked
   -- what a lookup finds, or how a login is decided
-  account : accounts.Example → Worked
+  account : accounts.AccountExample → Worked
 
 abbrev pub Holds : Worked → Type 0
 Holds (packet x) = decode x.bytes ≡ x.says

@@ -23,7 +23,8 @@ status_byte AlreadyLoggedIn = 0x4C
 
 abbrev pub statuses : List Status
 statuses =
-    Accepted ∷ UnknownUser ∷ SessionUnavailable ∷ InvalidNumber ∷ WrongVersion ∷ WrongProtocol ∷ AlreadyLoggedIn ∷ []
+    Accepted ∷ UnknownUser ∷ SessionUnavailable ∷ InvalidNumber ∷ WrongVersion ∷ WrongProtocol
+    ∷ AlreadyLoggedIn ∷ []
 
 abbrev pub status_of : ℕ → Result Status PacketFault
 status_of = coded status_byte (WrongContent Field.Status) statuses

@@ -24,8 +24,8 @@ letter_byte Test = 0x54
 
 abbrev pub letters : List Letter
 letters =
-    LoginRequest ∷ LoginResponse ∷ Sequenced ∷ Unsequenced ∷ SynchronizationComplete ∷ RetransmissionRequest
-    ∷ LogoutRequest ∷ GoodBye ∷ EndOfSession ∷ HubHeartbeat ∷ SeatHeartbeat ∷ Test ∷ []
+    LoginRequest ∷ LoginResponse ∷ Sequenced ∷ Unsequenced ∷ SynchronizationComplete
+    ∷ RetransmissionRequest ∷ LogoutRequest ∷ GoodBye ∷ EndOfSession ∷ HubHeartbeat ∷ SeatHeartbeat ∷ Test ∷ []
 
 -- the letter that a byte writes
 abbrev pub letter_of : ℕ → Result Letter PacketFault

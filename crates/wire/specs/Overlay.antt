@@ -7,4 +7,5 @@ laid places at piece = take at places ++ (piece ++ drop (length piece) (drop at 
 
 -- The same where the piece fits; one that does not fit is not written.
 abbrev pub overlaid : List ℕ → ℕ → List ℕ → List ℕ
-overlaid places at piece = cond (nat_le (at + length piece) (length places)) (laid places at piece) places
+overlaid places at piece =
+    cond (nat_le (at + length piece) (length places)) (laid places at piece) places

@@ -5,6 +5,7 @@ use Rattle.wire.specs.declared.faults.Fault.TheVariants as F
 use Rattle.wire.specs.declared.faults.LogFault.TheVariants.{Full}
 use Rattle.wire.specs.declared.refusals.Refusal.{Refusal}
 use Rattle.wire.specs.declared.refusals.Refusal.TheVariants.{MessageTooLong, SessionZero, NoSuchMessage, ShortBuffer, SizeOutOfRange, BadAccountField, BrokenLog, BadPacket, LogFull, LineFull, WrongPhase, SessionFinished, HubBusy, LastSession, NoSession, NothingToFetch, AccountTaken, OutOfMemory}
+use Rattle.wire.specs.Faults.{log_cause}
 
 abbrev pub number : Refusal → ℕ
 number MessageTooLong = 11
@@ -15,7 +16,7 @@ number SizeOutOfRange = 15
 number BadAccountField = 16
 number (BrokenLog place) = 17
 number (BadPacket fault) = 18
-number LogFull = 21
+number LogFull = log_cause Full
 number LineFull = 22
 number WrongPhase = 23
 number SessionFinished = 24

@@ -81,7 +81,7 @@ impl Refusal {
             Refusal::BadAccountField => 16,
             Refusal::BrokenLog(_) => 17,
             Refusal::BadPacket(_) => 18,
-            Refusal::LogFull => 21,
+            Refusal::LogFull => LogFault::Full.cause(),
             Refusal::LineFull => 22,
             Refusal::WrongPhase => 23,
             Refusal::SessionFinished => 24,

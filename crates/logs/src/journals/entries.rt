@@ -6,16 +6,17 @@ ghost use Rattle.logs.specs.Format.{saved};
 ghost use Rattle.logs.specs.Layout.{base, gap, placed};
 ghost use Rattle.logs.specs.JournalSound.{journal_sound};
 
-use packed_messages::copy_out;
+use super::{Journal, session_record};
 use crate::records::Mark;
 use message_log::Log;
-use super::{Journal, session_record};
+use packed_messages::copy_out;
 use wire::Refusal;
 
 impl Journal {
     /// The bytes in use: the log in its saved form.
     pub fn bytes(&self) -> &[u8]
-        ensures { result.now ≡ saved (⟦<Journal as Log>⟧.view self.now).session (⟦<Journal as Log>⟧.view self.now).messages }
+        ensures { let log = ⟦<Journal as Log>⟧.view self.now in
+            result.now ≡ saved log.session log.messages }
     {
         &self.parts.memory[..self.parts.used()]
     }

@@ -5,9 +5,9 @@ ghost use Rattle.message_log.specs.Meaning.{count, begun, added};
 ghost use Rattle.message_log.specs.Calls.{Lent, takes, begins, settled};
 ghost use Rattle.packed_messages.specs.Kept.{kept, used, placed};
 
+use super::PackedMessages;
 use crate::bytes::edge_at;
 use message_log::Space;
-use super::PackedMessages;
 use wire::{Refusal, lay};
 
 impl<const BASE: usize, const GAP: usize> PackedMessages<BASE, GAP> {
@@ -46,7 +46,10 @@ impl<const BASE: usize, const GAP: usize> PackedMessages<BASE, GAP> {
 
     /// Judges a message of so many bytes: where it would begin with its gap, or why it is not taken.
     fn judge(&self, bytes: usize) -> Result<usize, Refusal>
-        ensures { MatchResult result (λ at. (at ≡ used BASE GAP self.now) × (takes (kept BASE GAP self.now) bytes ≡ Ok tt)) (λ refusal. takes (kept BASE GAP self.now) bytes ≡ Err refusal) }
+        ensures { let answer = takes (kept BASE GAP self.now) bytes in
+            MatchResult result
+            (λ at. (at ≡ used BASE GAP self.now) × (answer ≡ Ok tt))
+            (λ refusal. answer ≡ Err refusal) }
     {
         let at = self.used();
         let space = Space {
@@ -79,8 +82,10 @@ impl<const BASE: usize, const GAP: usize> PackedMessages<BASE, GAP> {
     /// Sets the session, empties the list, and lays these bytes before it.
     pub fn begin(&mut self, session: u8, front: [u8; BASE]) -> Result<(), Refusal>
         ensures value { result ≡ begins session }
-        ensures after { kept BASE GAP self.new ≡ settled result (begun (kept BASE GAP self.old) session) (kept BASE GAP self.old) }
-        ensures memory { self.new.memory.items ≡ settled result (laid self.old.memory.items 0 front.entry) self.old.memory.items }
+        ensures after { let before = kept BASE GAP self.old in
+            kept BASE GAP self.new ≡ settled result (begun before session) before }
+        ensures memory { let before = self.old.memory.items in
+            self.new.memory.items ≡ settled result (laid before 0 front.entry) before }
         ensures used { used BASE GAP self.new ≡ settled result BASE (used BASE GAP self.old) }
     {
         if session == 0 {
@@ -108,9 +113,13 @@ impl<const BASE: usize, const GAP: usize> PackedMessages<BASE, GAP> {
     /// Adds a message at the end, with these bytes in its gap.
     pub fn append(&mut self, head: [u8; GAP], message: &[u8]) -> Result<(), Refusal>
         ensures value { result ≡ takes (kept BASE GAP self.old) (length message.now) }
-        ensures after { kept BASE GAP self.new ≡ settled result (added (kept BASE GAP self.old) message.now) (kept BASE GAP self.old) }
-        ensures memory { self.new.memory.items ≡ settled result (laid self.old.memory.items (used BASE GAP self.old) (head.entry ++ message.now)) self.old.memory.items }
-        ensures used { used BASE GAP self.new ≡ settled result (used BASE GAP self.old + GAP + length message.now) (used BASE GAP self.old) }
+        ensures after { let before = kept BASE GAP self.old in
+            kept BASE GAP self.new ≡ settled result (added before message.now) before }
+        ensures memory { let before = self.old.memory.items in
+            let form = laid before (used BASE GAP self.old) (head.entry ++ message.now) in
+            self.new.memory.items ≡ settled result form before }
+        ensures used { let before = used BASE GAP self.old in
+            used BASE GAP self.new ≡ settled result (before + GAP + length message.now) before }
     {
         let at = self.judge(message.len())?;
         self.note(at, message.len());

@@ -15,10 +15,10 @@ loop-next-init g c =
       can = omega (arith, size, c.args.piece.ok.0);
       ends = tt;
       size = size;
-      long = made.0;
+      long = made.buffer;
       fed = [];
       whole = ap chunks_rest e ∙ c.chunks-next-items.ensures.rest;
-      steps = begun c.args.input.now c.args.piece.bytes (g.L.Line.view c.clear.new.self) c.in_ok-pumper.pumper.trace made.1 made.2;
+      steps = begun c.args.input.now c.args.piece.bytes (g.L.Line.view c.clear.new.self) c.in_ok-pumper.pumper.trace made.trace.0 made.trace.1;
     }
 
 pub loop-next-preserved : goal.loop-next-preserved

@@ -1,16 +1,16 @@
-//! The command that the words of a line write.
+//! The instruction that the words of a line write.
 ghost use Rattle.std.specs.Prelude.{◌≡◌};
-ghost use Rattle.logins.specs.Commands.{passed_over, said, read_of, verb_line, account_line, hub_line, login_line, logout_line, byte_of};
-ghost use Rattle.logins.specs.declared.commands.Malformed.TheVariants.{BadField};
+ghost use Rattle.logins.specs.Instructions.{passed_over, said, read_of, verb_line, account_line, hub_line, login_line, logout_line, byte_of};
+ghost use Rattle.logins.specs.declared.instructions.BadLine.TheVariants.{BadField};
 
-use crate::words::{Verb, Word};
+use crate::tokens::{Token, Verb};
 use account::{Account, padded};
 use thiserror::Error;
 use wire::Refusal;
 
 /// What a line asks for.
 #[derive(Clone, Copy)]
-pub enum Command<'a> {
+pub enum Instruction<'a> {
     /// An account to be added. Its fields are not judged yet.
     Account {
         user: &'a [u8],
@@ -36,9 +36,9 @@ pub enum Command<'a> {
     },
 }
 
-/// Why a line writes no command.
+/// Why a line writes no instruction.
 #[derive(Clone, Copy, PartialEq, Eq, Debug, Error)]
-pub enum Malformed {
+pub enum BadLine {
     /// The first word is no verb.
     #[error("the first word is not account, hub, login or logout")]
     NoVerb,
@@ -54,7 +54,7 @@ pub enum Malformed {
 }
 
 /// Whether a line is passed over: a blank one, or one that begins with `#`.
-pub fn is_passed_over(words: &[Word<'_>]) -> bool
+pub fn is_passed_over(words: &[Token<'_>]) -> bool
     ensures { result ≡ passed_over words.now }
 {
     match words {
@@ -64,26 +64,26 @@ pub fn is_passed_over(words: &[Word<'_>]) -> bool
 }
 
 // Written out and not derived: the contracts say which case `?` makes.
-impl From<Refusal> for Malformed {
+impl From<Refusal> for BadLine {
     ghost from_gives = { λ _ r. r ≡ BadField };
 
-    fn from(_refusal: Refusal) -> Malformed {
-        Malformed::BadField
+    fn from(_refusal: Refusal) -> BadLine {
+        BadLine::BadField
     }
 }
 
-/// The command that the words of a line write.
-pub fn read<'a>(words: &[Word<'a>]) -> Result<Command<'a>, Malformed>
+/// The instruction that the words of a line write.
+pub fn read<'a>(words: &[Token<'a>]) -> Result<Instruction<'a>, BadLine>
     ensures { said result ≡ read_of words.now }
 {
     let [first, rest @ ..] = words else {
-        return Err(Malformed::NoVerb);
+        return Err(BadLine::NoVerb);
     };
     arguments(first.verb, rest)
 }
 
-/// The command of a verb and the words behind it.
-fn arguments<'a>(verb: Option<Verb>, rest: &[Word<'a>]) -> Result<Command<'a>, Malformed>
+/// The instruction of a verb and the words behind it.
+fn arguments<'a>(verb: Option<Verb>, rest: &[Token<'a>]) -> Result<Instruction<'a>, BadLine>
     ensures { said result ≡ verb_line verb rest.now }
 {
     match verb {
@@ -91,56 +91,56 @@ fn arguments<'a>(verb: Option<Verb>, rest: &[Word<'a>]) -> Result<Command<'a>, M
         Some(Verb::Hub) => hub_line(rest),
         Some(Verb::Login) => login_line(rest),
         Some(Verb::Logout) => logout_line(rest),
-        None => Err(Malformed::NoVerb),
+        None => Err(BadLine::NoVerb),
     }
 }
 
-fn account_line<'a>(words: &[Word<'a>]) -> Result<Command<'a>, Malformed>
+fn account_line<'a>(words: &[Token<'a>]) -> Result<Instruction<'a>, BadLine>
     ensures { said result ≡ account_line words.now }
 {
     let [user, computer, protocol] = words else {
-        return Err(Malformed::WordCount);
+        return Err(BadLine::WordCount);
     };
-    Ok(Command::Account {
+    Ok(Instruction::Account {
         user: user.text,
         computer: computer.text,
         protocol: protocol.text,
     })
 }
 
-fn hub_line<'a>(words: &[Word<'a>]) -> Result<Command<'a>, Malformed>
+fn hub_line<'a>(words: &[Token<'a>]) -> Result<Instruction<'a>, BadLine>
     ensures { said result ≡ hub_line words.now }
 {
     let [session, highest] = words else {
-        return Err(Malformed::WordCount);
+        return Err(BadLine::WordCount);
     };
-    Ok(Command::Hub {
-        session: byte_of(session.number).ok_or(Malformed::NoNumber)?,
-        highest: highest.number.ok_or(Malformed::NoNumber)?,
+    Ok(Instruction::Hub {
+        session: byte_of(session.number).ok_or(BadLine::NoNumber)?,
+        highest: highest.number.ok_or(BadLine::NoNumber)?,
     })
 }
 
-fn login_line<'a>(words: &[Word<'a>]) -> Result<Command<'a>, Malformed>
+fn login_line<'a>(words: &[Token<'a>]) -> Result<Instruction<'a>, BadLine>
     ensures { said result ≡ login_line words.now }
 {
     let [version, user, computer, protocol, session, number] = words else {
-        return Err(Malformed::WordCount);
+        return Err(BadLine::WordCount);
     };
-    Ok(Command::Login {
+    Ok(Instruction::Login {
         version: padded(version.text)?,
         account: Account::new(user.text, computer.text, protocol.text)?,
-        session: byte_of(session.number).ok_or(Malformed::NoNumber)?,
-        number: number.number.ok_or(Malformed::NoNumber)?,
+        session: byte_of(session.number).ok_or(BadLine::NoNumber)?,
+        number: number.number.ok_or(BadLine::NoNumber)?,
     })
 }
 
-fn logout_line<'a>(words: &[Word<'a>]) -> Result<Command<'a>, Malformed>
+fn logout_line<'a>(words: &[Token<'a>]) -> Result<Instruction<'a>, BadLine>
     ensures { said result ≡ logout_line words.now }
 {
     let [user, computer] = words else {
-        return Err(Malformed::WordCount);
+        return Err(BadLine::WordCount);
     };
-    Ok(Command::Logout {
+    Ok(Instruction::Logout {
         user: padded(user.text)?,
         computer: padded(computer.text)?,
     })

@@ -1,6 +1,6 @@
 //! The words of a line.
 ghost use Rattle.std.specs.Prelude.{◌≡◌};
-ghost use Rattle.logins.specs.Words.{Names, Writes};
+ghost use Rattle.logins.specs.Tokens.{Names, Writes};
 
 /// The words that begin a line.
 #[derive(Clone, Copy)]
@@ -13,19 +13,19 @@ pub enum Verb {
 
 /// A word: its text, and the verb and the number that the text writes, if it does.
 #[derive(Clone, Copy)]
-pub struct Word<'a> {
+pub struct Token<'a> {
     pub text: &'a [u8],
     pub verb: Option<Verb>,
     pub number: Option<u64>,
 }
 
 /// The word that a text is.
-pub fn word_of(text: &str) -> Word<'_>
+pub fn token_of(text: &str) -> Token<'_>
     ensures text { result.text.now ≡ text.now }
     ensures verb { Names text.now result.verb }
     ensures number { Writes text.now result.number }
 {
-    Word {
+    Token {
         text: text.as_bytes(),
         verb: verb_of(text),
         number: number_of(text),
