@@ -9,6 +9,7 @@ use Rattle.packet.specs.Values.{Value}
 use Rattle.rules.specs.declared.answers.Received.{Received}
 use Rattle.rules.specs.declared.answers.Report.{Report}
 use Rattle.rules.specs.declared.answers.Received.TheVariants.{Nothing, Part, Acted, Message}
+use Rattle.pair.specs.Lent.{any_short}
 use Rattle.rules.specs.State.{Buffers, Pair, Outcome}
 use Rattle.rules.specs.Laws.{NoShorter}
 use Rattle.rules.specs.Hub.{hub_sends}
@@ -47,7 +48,7 @@ pub record AllLong (b : Buffers) : Type 0 where
   pub seat_frame : packet_limit ≤ length b.seat_frame
   pub out : packet_limit ≤ length b.out
 
-pub all_long : (b : Buffers) → too_short b.hub_frame || (too_short b.seat_frame || too_short b.out) ≡ false → AllLong b
+pub all_long : (b : Buffers) → any_short b ≡ false → AllLong b
 all_long b e =
     let p = or_parts (too_short b.hub_frame) (too_short b.seat_frame || too_short b.out) e in
     let q = or_parts (too_short b.seat_frame) (too_short b.out) p.1 in
@@ -55,6 +56,12 @@ all_long b e =
 
 pub longer : {b c : Buffers} → NoShorter b c → AllLong b → AllLong c
 longer f a = record { hub_frame = trans a.hub_frame f.hub_frame; seat_frame = trans a.seat_frame f.seat_frame; out = trans a.out f.out }
+
+pub none_short : {b : Buffers} → AllLong b → any_short b ≡ false
+none_short {b} a = or_from _ _ (long b.hub_frame a.hub_frame) (both_long b.seat_frame b.out a.seat_frame a.out)
+
+pub still_long : {b c : Buffers} → NoShorter b c → any_short b ≡ false → any_short c ≡ false
+still_long {b} f e = none_short (longer f (all_long b e))
 
 -- buffers that are no shorter than others that are no shorter than these
 pub no_shorter : {a b c : Buffers} → NoShorter a b → NoShorter b c → NoShorter a c
@@ -102,10 +109,6 @@ one_at_most (Ok Part) k e = let h : k ≡ 0 = cc in omega arith
 one_at_most (Ok (Acted letter)) k e = let h : k ≡ 1 = cc in omega arith
 one_at_most (Ok (Message place long)) k e = let h : k ≡ 1 = cc in omega arith
 one_at_most (Err refusal) k e = (cc)
-
--- a buffer that is shorter than the longest packet is too short
-pub short : (buffer : List ℕ) → length buffer < packet_limit → too_short buffer ≡ true
-short buffer h = lt-ltb (length buffer) packet_limit h
 
 -- a round, of the receives and sends that it is made of
 pub round_goes : (s heard sent taken t : Pair) (report : Report) (hub : Result (Option Letter) Refusal) (seat : Result (Option Letter) Refusal) → lent_short Round s ≡ false →

@@ -1,6 +1,7 @@
 //! The buffers that the calls of a pair are lent.
-ghost use Rattle.std.specs.Prelude.{◌≡◌, ◌||◌};
+ghost use Rattle.std.specs.Prelude.{◌≡◌};
 ghost use Rattle.rules.specs.Rounds.{too_short};
+ghost use Rattle.pair.specs.Lent.{any_short};
 
 use std::marker::Model;
 use wire::PACKET_LIMIT;
@@ -28,10 +29,7 @@ impl Model for Buffers {
 impl Buffers {
     /// Whether one of them cannot hold the longest packet.
     pub fn is_short(&self) -> bool
-        ensures {
-            let out = too_short self.now.out in
-            result ≡ too_short self.now.hub_frame || (too_short self.now.seat_frame || out)
-        }
+        ensures { result ≡ any_short self.now }
     {
         is_short(&self.hub_frame) || (is_short(&self.seat_frame) || is_short(&self.out))
     }
