@@ -1,6 +1,6 @@
 -- How receives, one after the other, come to what an end drains; and what a step of one call tells.
 use Rattle.std.proofs.Common.{◌≡◌, ℕ, ◌+◌, ◌<◌, ◌≤◌, true, false, ◌||◌, List, length, Ok, Err, Option, Result, sym, refl, subst, ap, add_assoc, zero-add, add-zero, arith}
-use Rattle.std.proofs.lemmas.Bool.{or_from, lt-ltb, le-ltb}
+use Rattle.std.proofs.lemmas.Bool.{or_from, or_parts, lt-ltb, le-ltb, ltb-false}
 use Rattle.wire.specs.declared.faults.Fault.{Fault}
 use Rattle.wire.specs.declared.refusals.Refusal.{Refusal}
 use Rattle.wire.specs.Limits.{packet_limit}
@@ -9,12 +9,14 @@ use Rattle.packet.specs.Values.{Value}
 use Rattle.rules.specs.declared.answers.Received.{Received}
 use Rattle.rules.specs.declared.answers.Report.{Report}
 use Rattle.rules.specs.declared.answers.Received.TheVariants.{Nothing, Part, Acted, Message}
-use Rattle.rules.specs.State.{Pair, Outcome}
+use Rattle.pair.specs.Lent.{any_short}
+use Rattle.rules.specs.State.{Buffers, Pair, Outcome}
+use Rattle.rules.specs.Laws.{NoShorter}
 use Rattle.rules.specs.Hub.{hub_sends}
 use Rattle.rules.specs.Seat.{seat_sends}
 use Rattle.rules.specs.declared.answers.Answer.TheVariants as Answer
 use Rattle.rules.specs.Rounds.{HubReceives, SeatReceives, HubReceive, SeatReceive, HubSend, SeatSend, Round, going, stop, continue, Drains, ends, more, too_short, lent_short, Effect, Step, short_buffer, hub_receives, seat_receives, hub_sends_one, seat_sends_one, rounds}
-use Rattle.pair.specs.Steps.{HubTakes, SeatTakes, HubPuts, SeatPuts, Goes}
+use Rattle.pair.specs.Steps.{ReceivesAtHub, ReceivesAtSeat, SendsFromHub, SendsFromSeat, GoesRound}
 
 -- so many packets were acted on, from the first pair to the second, and the receives go on
 pub record Ahead (R : Pair → Outcome Received → Type 0) (s : Pair) (k : ℕ) (t : Pair) : Type 0 where
@@ -37,12 +39,43 @@ long buffer h = le-ltb (length buffer) packet_limit h
 pub both_long : (a b : List ℕ) → packet_limit ≤ length a → packet_limit ≤ length b → too_short a || too_short b ≡ false
 both_long a b h k = or_from _ _ (long a h) (long b k)
 
+trans : {a b c : ℕ} → a ≤ b → b ≤ c → a ≤ c
+trans f g = omega arith
+
+-- buffers of which none is too short
+pub record AllLong (b : Buffers) : Type 0 where
+  pub hub_frame : packet_limit ≤ length b.hub_frame
+  pub seat_frame : packet_limit ≤ length b.seat_frame
+  pub out : packet_limit ≤ length b.out
+
+pub all_long : (b : Buffers) → any_short b ≡ false → AllLong b
+all_long b e =
+    let p = or_parts (too_short b.hub_frame) (too_short b.seat_frame || too_short b.out) e in
+    let q = or_parts (too_short b.seat_frame) (too_short b.out) p.1 in
+    record { hub_frame = ltb-false _ packet_limit p.0; seat_frame = ltb-false _ packet_limit q.0; out = ltb-false _ packet_limit q.1 }
+
+pub longer : {b c : Buffers} → NoShorter b c → AllLong b → AllLong c
+longer f a = record { hub_frame = trans a.hub_frame f.hub_frame; seat_frame = trans a.seat_frame f.seat_frame; out = trans a.out f.out }
+
+pub none_short : {b : Buffers} → AllLong b → any_short b ≡ false
+none_short {b} a = or_from _ _ (long b.hub_frame a.hub_frame) (both_long b.seat_frame b.out a.seat_frame a.out)
+
+pub still_long : {b c : Buffers} → NoShorter b c → any_short b ≡ false → any_short c ≡ false
+still_long {b} f e = none_short (longer f (all_long b e))
+
+-- buffers that are no shorter than others that are no shorter than these
+pub no_shorter : {a b c : Buffers} → NoShorter a b → NoShorter b c → NoShorter a c
+no_shorter f g = record { hub_frame = trans f.hub_frame g.hub_frame; seat_frame = trans f.seat_frame g.seat_frame; out = trans f.out g.out }
+
+pub as_long : (b : Buffers) → NoShorter b b
+as_long b = record { hub_frame = omega arith; seat_frame = omega arith; out = omega arith }
+
 -- a receive to which no short buffer is lent
 hub_step : (s : Pair) (d : Effect) (answer : Result Received Refusal) → lent_short HubReceive s ≡ false → Step s HubReceive d → d.answer ≡ Answer.Received answer → HubReceives s (record { answer = answer; after = d.after })
 hub_step s _ a f (short_buffer _ e) g = (cc)
 hub_step s _ a f (hub_receives o e r) g = let h : o.answer ≡ a = cc in subst (λ x. HubReceives s (record { answer = x; after = o.after })) h r
 
-pub hub_received : {s t : Pair} {answer : Result Received Refusal} → HubTakes s answer t → packet_limit ≤ length s.buffers.hub_frame → packet_limit ≤ length s.buffers.out →
+pub hub_received : {s t : Pair} {answer : Result Received Refusal} → ReceivesAtHub s answer t → packet_limit ≤ length s.buffers.hub_frame → packet_limit ≤ length s.buffers.out →
     HubReceives s (record { answer = answer; after = t })
 hub_received {s} {t} {answer} h f o = hub_step s _ answer (both_long s.buffers.hub_frame s.buffers.out f o) h refl
 
@@ -50,7 +83,7 @@ seat_step : (s : Pair) (d : Effect) (answer : Result Received Refusal) → lent_
 seat_step s _ a f (short_buffer _ e) g = (cc)
 seat_step s _ a f (seat_receives o e r) g = let h : o.answer ≡ a = cc in subst (λ x. SeatReceives s (record { answer = x; after = o.after })) h r
 
-pub seat_received : {s t : Pair} {answer : Result Received Refusal} → SeatTakes s answer t → packet_limit ≤ length s.buffers.seat_frame → packet_limit ≤ length s.buffers.out →
+pub seat_received : {s t : Pair} {answer : Result Received Refusal} → ReceivesAtSeat s answer t → packet_limit ≤ length s.buffers.seat_frame → packet_limit ≤ length s.buffers.out →
     SeatReceives s (record { answer = answer; after = t })
 seat_received {s} {t} {answer} h f o = seat_step s _ answer (both_long s.buffers.seat_frame s.buffers.out f o) h refl
 
@@ -59,14 +92,14 @@ hub_sent_by : (s : Pair) (d : Effect) → lent_short HubSend s ≡ false → Ste
 hub_sent_by s _ f (short_buffer _ e) = (cc)
 hub_sent_by s _ f (hub_sends_one e) = refl
 
-pub hub_sent : (s t : Pair) (answer : Result (Option Letter) Refusal) → lent_short HubSend s ≡ false → HubPuts s answer t → t ≡ (hub_sends s).after
+pub hub_sent : (s t : Pair) (answer : Result (Option Letter) Refusal) → lent_short HubSend s ≡ false → SendsFromHub s answer t → t ≡ (hub_sends s).after
 hub_sent s t a f (wrote, h) = hub_sent_by s _ f h
 
 seat_sent_by : (s : Pair) (d : Effect) → lent_short SeatSend s ≡ false → Step s SeatSend d → d.after ≡ (seat_sends s).after
 seat_sent_by s _ f (short_buffer _ e) = (cc)
 seat_sent_by s _ f (seat_sends_one e) = refl
 
-pub seat_sent : (s t : Pair) (answer : Result (Option Letter) Refusal) → lent_short SeatSend s ≡ false → SeatPuts s answer t → t ≡ (seat_sends s).after
+pub seat_sent : (s t : Pair) (answer : Result (Option Letter) Refusal) → lent_short SeatSend s ≡ false → SendsFromSeat s answer t → t ≡ (seat_sends s).after
 seat_sent s t a f h = seat_sent_by s _ f h
 
 -- a receive acts on one packet at most
@@ -77,15 +110,11 @@ one_at_most (Ok (Acted letter)) k e = let h : k ≡ 1 = cc in omega arith
 one_at_most (Ok (Message place long)) k e = let h : k ≡ 1 = cc in omega arith
 one_at_most (Err refusal) k e = (cc)
 
--- a buffer that is shorter than the longest packet is too short
-pub short : (buffer : List ℕ) → length buffer < packet_limit → too_short buffer ≡ true
-short buffer h = lt-ltb (length buffer) packet_limit h
-
 -- a round, of the receives and sends that it is made of
 pub round_goes : (s heard sent taken t : Pair) (report : Report) (hub : Result (Option Letter) Refusal) (seat : Result (Option Letter) Refusal) → lent_short Round s ≡ false →
-    Drains HubReceives s report.hub.packets report.hub.fault heard → lent_short HubSend heard ≡ false → HubPuts heard hub sent →
-    Drains SeatReceives sent report.seat.packets report.seat.fault taken → lent_short SeatSend taken ≡ false → SeatPuts taken seat t →
-    Goes s (Ok report) t
+    Drains HubReceives s report.hub.packets report.hub.fault heard → lent_short HubSend heard ≡ false → SendsFromHub heard hub sent →
+    Drains SeatReceives sent report.seat.packets report.seat.fault taken → lent_short SeatSend taken ≡ false → SendsFromSeat taken seat t →
+    GoesRound s (Ok report) t
 round_goes s heard sent taken t report hub seat e a e1 b c e2 d = (
   (hub_sends heard).wrote,
   rounds report _ t e (record {

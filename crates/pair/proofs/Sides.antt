@@ -21,7 +21,7 @@ use Rattle.framing.specs.Calling.{answered, unless_short}
 use Rattle.hub.specs.Receives as Hub
 use Rattle.hub.specs.Sends.{told, sends}
 use Rattle.seat.specs.Receives as Seat
-use Rattle.pair.specs.Steps.{Does, HubTakes, SeatTakes, HubPuts, SeatPuts}
+use Rattle.pair.specs.Steps.{Does, ReceivesAtHub, ReceivesAtSeat, SendsFromHub, SendsFromSeat}
 
 -- a rule that looks at the hub's side alone, or at the seat's, and leaves the rest alone
 abbrev pub OfHub : {R : Type 0} → (Pair → Outcome R) → Type 0
@@ -100,9 +100,9 @@ of_hearing : (room : ℕ) → OfHub (hub_hearing room)
 of_hearing room s x =
     along (on_side (with_hub_side s)) (listens x.hub.phase) _ _ _ _ (hub_hears_side (given x.up (lack x.hub.frame)) (left x.up (lack x.hub.frame) room) x s) refl
 
-pub hub_takes : (s t : Pair) (r : Result Received Refusal) → with_hub_side s t ≡ t → Hub.Receives (hub_side_of s) r (hub_side_of t) → HubTakes s r t
-hub_takes s t r same h =
-    hub_calls (hub_hearing t.up.room) (λ (o : Outcome Received). HubTakes s o.answer o.after) HubReceive s t r (of_hearing t.up.room)
+pub hub_receives_once : (s t : Pair) (r : Result Received Refusal) → with_hub_side s t ≡ t → Hub.Receives (hub_side_of s) r (hub_side_of t) → ReceivesAtHub s r t
+hub_receives_once s t r same h =
+    hub_calls (hub_hearing t.up.room) (λ (o : Outcome Received). ReceivesAtHub s o.answer o.after) HubReceive s t r (of_hearing t.up.room)
     (short_buffer HubReceive) (λ q. hub_receives (hub_hearing t.up.room s) q (go q (listens s.hub.phase) refl)) same h.outcome
   where
     go : lent_short HubReceive s ≡ false → (b : Bool) → listens s.hub.phase ≡ b → HubReceives s (cond b (Hub.hears s t.up.room) (refuses WrongPhase s))
@@ -116,9 +116,9 @@ of_seat_hearing : (room : ℕ) → OfSeat (seat_hearing room)
 of_seat_hearing room s x =
     along (on_side (with_seat_side s)) (is_apart x.seat.phase) _ _ _ _ refl (seat_hears_side (given x.down (lack x.seat.frame)) (left x.down (lack x.seat.frame) room) x s)
 
-pub seat_takes : (s t : Pair) (r : Result Received Refusal) → with_seat_side s t ≡ t → Seat.Receives (seat_side_of s) r (seat_side_of t) → SeatTakes s r t
-seat_takes s t r same h =
-    seat_calls (seat_hearing t.down.room) (λ (o : Outcome Received). SeatTakes s o.answer o.after) SeatReceive s t r (of_seat_hearing t.down.room)
+pub seat_receives_once : (s t : Pair) (r : Result Received Refusal) → with_seat_side s t ≡ t → Seat.Receives (seat_side_of s) r (seat_side_of t) → ReceivesAtSeat s r t
+seat_receives_once s t r same h =
+    seat_calls (seat_hearing t.down.room) (λ (o : Outcome Received). ReceivesAtSeat s o.answer o.after) SeatReceive s t r (of_seat_hearing t.down.room)
     (short_buffer SeatReceive) (λ q. seat_receives (seat_hearing t.down.room s) q (go q (is_apart s.seat.phase) refl)) same h.outcome
   where
     go : lent_short SeatReceive s ≡ false → (b : Bool) → is_apart s.seat.phase ≡ b → SeatReceives s (cond b (refuses WrongPhase s) (Seat.hears s t.down.room))
@@ -126,12 +126,12 @@ seat_takes s t r same h =
     go q false l = seat_hears_bytes t.down.room l (h.free q l)
 
 -- a send of the hub, whose packet the call does not tell
-pub hub_puts : (s t : Pair) (r : Result (Option Letter) Refusal) → with_hub_side s t ≡ t → answered r (hub_side_of t) ≡ unless_short sends (hub_side_of s) → HubPuts s r t
-hub_puts s t r =
-    hub_calls sends (λ (o : Outcome (Option Letter)). HubPuts s o.answer o.after) HubSend s t r (hub_core sends (λ x y. ap told (hub_sends_core x y)))
+pub hub_sends_due : (s t : Pair) (r : Result (Option Letter) Refusal) → with_hub_side s t ≡ t → answered r (hub_side_of t) ≡ unless_short sends (hub_side_of s) → SendsFromHub s r t
+hub_sends_due s t r =
+    hub_calls sends (λ (o : Outcome (Option Letter)). SendsFromHub s o.answer o.after) HubSend s t r (hub_core sends (λ x y. ap told (hub_sends_core x y)))
     (λ q. (None, short_buffer HubSend q)) (λ q. ((hub_sends s).wrote, hub_sends_one q))
 
-pub seat_puts : (s t : Pair) (r : Result (Option Letter) Refusal) → with_seat_side s t ≡ t → answered r (seat_side_of t) ≡ unless_short seat_sends (seat_side_of s) → SeatPuts s r t
-seat_puts s t r =
-    seat_calls seat_sends (λ (o : Outcome (Option Letter)). SeatPuts s o.answer o.after) SeatSend s t r (seat_core seat_sends seat_sends_core)
+pub seat_sends_due : (s t : Pair) (r : Result (Option Letter) Refusal) → with_seat_side s t ≡ t → answered r (seat_side_of t) ≡ unless_short seat_sends (seat_side_of s) → SendsFromSeat s r t
+seat_sends_due s t r =
+    seat_calls seat_sends (λ (o : Outcome (Option Letter)). SendsFromSeat s o.answer o.after) SeatSend s t r (seat_core seat_sends seat_sends_core)
     (short_buffer SeatSend) seat_sends_one

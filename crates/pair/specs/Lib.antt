@@ -1,3 +1,4 @@
+pub mod Lent
 pub mod Meanings
 pub mod Steps
 pub mod Makings

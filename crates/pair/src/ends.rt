@@ -1,10 +1,11 @@
-//! What each end takes and sends by itself.
-ghost use Rattle.std.specs.Prelude.{◌≡◌, ℕ, List};
+//! What each end receives and sends by itself.
+ghost use Rattle.std.specs.Prelude.{◌≡◌};
 ghost use Rattle.line.specs.Lines.{LineView};
 ghost use Rattle.message_log.specs.Meaning.{Meaning};
 ghost use Rattle.pair.specs.Meanings.{pair_of};
-ghost use Rattle.pair.specs.Steps.{HubTakes, SeatTakes, HubPuts, SeatPuts};
+ghost use Rattle.pair.specs.Steps.{ReceivesAtHub, ReceivesAtSeat, SendsFromHub, SendsFromSeat};
 
+use crate::buffers::Buffers;
 use crate::pairs::Pair;
 use line::{Line, SteadyLine};
 use message_log::Log;
@@ -19,13 +20,26 @@ impl Pair {
         hub_log: &G,
         up: &mut U,
         down: &mut D,
-        hub_frame: &mut [u8],
-        out: &mut [u8],
+        buffers: &mut Buffers,
     ) -> Result<Received, Refusal>
-        ensures { (seat_log : Meaning) (seat_frame : List ℕ) → HubTakes (pair_of self.old (G.Log.view hub_log.now) seat_log (U.Line.view up.old) (D.Line.view down.old) hub_frame.old seat_frame out.old) result (pair_of self.new (G.Log.view hub_log.now) seat_log (U.Line.view up.new) (D.Line.view down.new) hub_frame.new seat_frame out.new) }
+        ensures {
+            (seat_log : Meaning) →
+            let log = G.Log.view hub_log.now in
+            let up_before = U.Line.view up.old in
+            let up_after = U.Line.view up.new in
+            let before = pair_of self.old log seat_log up_before (D.Line.view down.old) buffers.old in
+            let after = pair_of self.new log seat_log up_after (D.Line.view down.new) buffers.new in
+            ReceivesAtHub before result after
+        }
     {
-        self.hub
-            .receive(hub_log, &mut self.accounts, up, down, hub_frame, out)
+        self.hub.receive(
+            hub_log,
+            &mut self.accounts,
+            up,
+            down,
+            &mut buffers.hub_frame,
+            &mut buffers.out,
+        )
     }
 
     /// The seat takes once from the down line, and acts on a packet that is whole then. Refuses by `ShortBuffer`,
@@ -35,12 +49,19 @@ impl Pair {
         seat_log: &mut S,
         up: &mut U,
         down: &mut D,
-        seat_frame: &mut [u8],
-        out: &mut [u8],
+        buffers: &mut Buffers,
     ) -> Result<Received, Refusal>
-        ensures { (hub_log : Meaning) (hub_frame : List ℕ) → SeatTakes (pair_of self.old hub_log (S.Log.view seat_log.old) (U.Line.view up.old) (D.Line.view down.old) hub_frame seat_frame.old out.old) result (pair_of self.new hub_log (S.Log.view seat_log.new) (U.Line.view up.new) (D.Line.view down.new) hub_frame seat_frame.new out.new) }
+        ensures {
+            (hub_log : Meaning) →
+            let before = pair_of self.old hub_log (S.Log.view seat_log.old)
+                (U.Line.view up.old) (D.Line.view down.old) buffers.old in
+            let after = pair_of self.new hub_log (S.Log.view seat_log.new)
+                (U.Line.view up.new) (D.Line.view down.new) buffers.new in
+            ReceivesAtSeat before result after
+        }
     {
-        self.seat.receive(seat_log, up, down, seat_frame, out)
+        self.seat
+            .receive(seat_log, up, down, &mut buffers.seat_frame, &mut buffers.out)
     }
 
     /// The hub sends what is due, one packet at most, and answers its letter. Refuses by `ShortBuffer`, `WrongPhase`
@@ -49,11 +70,18 @@ impl Pair {
         &mut self,
         hub_log: &G,
         down: &mut D,
-        out: &mut [u8],
+        buffers: &mut Buffers,
     ) -> Result<Option<Letter>, Refusal>
-        ensures { (seat_log : Meaning) (up : LineView) (hub_frame seat_frame : List ℕ) → HubPuts (pair_of self.old (G.Log.view hub_log.now) seat_log up (D.Line.view down.old) hub_frame seat_frame out.old) result (pair_of self.new (G.Log.view hub_log.now) seat_log up (D.Line.view down.new) hub_frame seat_frame out.new) }
+        ensures {
+            (seat_log : Meaning) (up : LineView) →
+            let log = G.Log.view hub_log.now in
+            let before = pair_of self.old log seat_log up (D.Line.view down.old) buffers.old in
+            let after = pair_of self.new log seat_log up (D.Line.view down.new) buffers.new in
+            SendsFromHub before result after
+        }
     {
-        self.hub.send(hub_log, &mut self.accounts, down, out)
+        self.hub
+            .send(hub_log, &mut self.accounts, down, &mut buffers.out)
     }
 
     /// The seat sends what is due, one packet at most, and answers its letter. Refuses by `ShortBuffer`, `WrongPhase`
@@ -62,10 +90,16 @@ impl Pair {
         &mut self,
         seat_log: &S,
         up: &mut U,
-        out: &mut [u8],
+        buffers: &mut Buffers,
     ) -> Result<Option<Letter>, Refusal>
-        ensures { (hub_log : Meaning) (down : LineView) (hub_frame seat_frame : List ℕ) → SeatPuts (pair_of self.old hub_log (S.Log.view seat_log.now) (U.Line.view up.old) down hub_frame seat_frame out.old) result (pair_of self.new hub_log (S.Log.view seat_log.now) (U.Line.view up.new) down hub_frame seat_frame out.new) }
+        ensures {
+            (hub_log : Meaning) (down : LineView) →
+            let log = S.Log.view seat_log.now in
+            let before = pair_of self.old hub_log log (U.Line.view up.old) down buffers.old in
+            let after = pair_of self.new hub_log log (U.Line.view up.new) down buffers.new in
+            SendsFromSeat before result after
+        }
     {
-        self.seat.send(seat_log, up, out)
+        self.seat.send(seat_log, up, &mut buffers.out)
     }
 }

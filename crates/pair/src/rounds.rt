@@ -1,17 +1,19 @@
 //! A round: each end receives what waits for it, and sends once.
-ghost use Rattle.std.specs.Prelude.{◌≡◌, ◌≤◌, ℕ, List, length};
+ghost use Rattle.std.specs.Prelude.{◌≡◌, ◌≤◌, length};
 ghost use Rattle.wire.specs.Limits.{packet_limit};
 ghost use Rattle.message_log.specs.Meaning.{Meaning};
+ghost use Rattle.rules.specs.Laws.{NoShorter};
 ghost use Rattle.rules.specs.Rounds.{Drains, HubReceives, SeatReceives, going};
 ghost use Rattle.pair.specs.Meanings.{pair_of};
-ghost use Rattle.pair.specs.Steps.{Goes};
+ghost use Rattle.pair.specs.Steps.{GoesRound};
 ghost use Rattle.pair.specs.Goings.{meant};
 
+use crate::buffers::Buffers;
 use crate::pairs::Pair;
 use line::SteadyLine;
 use message_log::Log;
 use rules::{Heard, Received, Report};
-use wire::{Fault, PACKET_LIMIT, Refusal};
+use wire::{Fault, Refusal};
 
 // What a receive's answer means for a round.
 enum Going {
@@ -46,25 +48,24 @@ impl Pair {
         seat_log: &mut S,
         up: &mut U,
         down: &mut D,
-        hub_frame: &mut [u8],
-        seat_frame: &mut [u8],
-        out: &mut [u8],
+        buffers: &mut Buffers,
     ) -> Result<Report, Refusal>
-        ensures { Goes (pair_of self.old (G.Log.view hub_log.now) (S.Log.view seat_log.old) (U.Line.view up.old) (D.Line.view down.old) hub_frame.old seat_frame.old out.old) result (pair_of self.new (G.Log.view hub_log.now) (S.Log.view seat_log.new) (U.Line.view up.new) (D.Line.view down.new) hub_frame.new seat_frame.new out.new) }
+        ensures {
+            let log = G.Log.view hub_log.now in
+            let before = pair_of self.old log (S.Log.view seat_log.old)
+                (U.Line.view up.old) (D.Line.view down.old) buffers.old in
+            let after = pair_of self.new log (S.Log.view seat_log.new)
+                (U.Line.view up.new) (D.Line.view down.new) buffers.new in
+            GoesRound before result after
+        }
     {
-        if hub_frame.len() < PACKET_LIMIT {
+        if buffers.is_short() {
             return Err(Refusal::ShortBuffer);
         }
-        if seat_frame.len() < PACKET_LIMIT {
-            return Err(Refusal::ShortBuffer);
-        }
-        if out.len() < PACKET_LIMIT {
-            return Err(Refusal::ShortBuffer);
-        }
-        let hub = self.drain_hub(hub_log, up, down, hub_frame, out);
-        let _ = self.hub_send(hub_log, down, out);
-        let seat = self.drain_seat(seat_log, up, down, seat_frame, out);
-        let _ = self.seat_send(seat_log, up, out);
+        let hub = self.drain_hub(hub_log, up, down, buffers);
+        let _ = self.hub_send(hub_log, down, buffers);
+        let seat = self.drain_seat(seat_log, up, down, buffers);
+        let _ = self.seat_send(seat_log, up, buffers);
         Ok(Report { hub, seat })
     }
 
@@ -74,18 +75,26 @@ impl Pair {
         hub_log: &G,
         up: &mut U,
         down: &mut D,
-        hub_frame: &mut [u8],
-        out: &mut [u8],
+        buffers: &mut Buffers,
     ) -> Heard
-        requires frame { packet_limit ≤ length hub_frame.old }
-        requires out { packet_limit ≤ length out.old }
-        ensures { (seat_log : Meaning) (seat_frame : List ℕ) → Drains HubReceives (pair_of self.old (G.Log.view hub_log.now) seat_log (U.Line.view up.old) (D.Line.view down.old) hub_frame.old seat_frame out.old) result.packets result.fault (pair_of self.new (G.Log.view hub_log.now) seat_log (U.Line.view up.new) (D.Line.view down.new) hub_frame.new seat_frame out.new) }
+        requires frame { packet_limit ≤ length buffers.old.hub_frame }
+        requires out { packet_limit ≤ length buffers.old.out }
+        ensures lengths { NoShorter buffers.old buffers.new }
+        ensures drained {
+            (seat_log : Meaning) →
+            let log = G.Log.view hub_log.now in
+            let up_before = U.Line.view up.old in
+            let up_after = U.Line.view up.new in
+            let before = pair_of self.old log seat_log up_before (D.Line.view down.old) buffers.old in
+            let after = pair_of self.new log seat_log up_after (D.Line.view down.new) buffers.new in
+            Drains HubReceives before result.packets result.fault after
+        }
     {
         // Each packet takes a byte at least, so that there are no more of them than this.
         let _most = up.waiting();
         let mut packets = 0;
         loop {
-            match Going::of(self.hub_receive(hub_log, up, down, hub_frame, out)) {
+            match Going::of(self.hub_receive(hub_log, up, down, buffers)) {
                 Going::Stop(fault) => return Heard { packets, fault },
                 Going::Continue(more) => packets += more,
             }
@@ -98,17 +107,24 @@ impl Pair {
         seat_log: &mut S,
         up: &mut U,
         down: &mut D,
-        seat_frame: &mut [u8],
-        out: &mut [u8],
+        buffers: &mut Buffers,
     ) -> Heard
-        requires frame { packet_limit ≤ length seat_frame.old }
-        requires out { packet_limit ≤ length out.old }
-        ensures { (hub_log : Meaning) (hub_frame : List ℕ) → Drains SeatReceives (pair_of self.old hub_log (S.Log.view seat_log.old) (U.Line.view up.old) (D.Line.view down.old) hub_frame seat_frame.old out.old) result.packets result.fault (pair_of self.new hub_log (S.Log.view seat_log.new) (U.Line.view up.new) (D.Line.view down.new) hub_frame seat_frame.new out.new) }
+        requires frame { packet_limit ≤ length buffers.old.seat_frame }
+        requires out { packet_limit ≤ length buffers.old.out }
+        ensures lengths { NoShorter buffers.old buffers.new }
+        ensures drained {
+            (hub_log : Meaning) →
+            let before = pair_of self.old hub_log (S.Log.view seat_log.old)
+                (U.Line.view up.old) (D.Line.view down.old) buffers.old in
+            let after = pair_of self.new hub_log (S.Log.view seat_log.new)
+                (U.Line.view up.new) (D.Line.view down.new) buffers.new in
+            Drains SeatReceives before result.packets result.fault after
+        }
     {
         let _most = down.waiting();
         let mut packets = 0;
         loop {
-            match Going::of(self.seat_receive(seat_log, up, down, seat_frame, out)) {
+            match Going::of(self.seat_receive(seat_log, up, down, buffers)) {
                 Going::Stop(fault) => return Heard { packets, fault },
                 Going::Continue(more) => packets += more,
             }

@@ -5,41 +5,52 @@ ghost use Rattle.line.specs.Lines.{LineView};
 ghost use Rattle.message_log.specs.Meaning.{nth};
 ghost use Rattle.message_log.specs.Calls.{has};
 ghost use Rattle.rules.specs.SetUp.{first_of, follows, started};
-ghost use Rattle.pair.specs.Makings.{SetsUp};
+ghost use Rattle.pair.specs.Makings.{parts_of, SetsUp};
 
+use crate::buffers::Buffers;
 use crate::pairs::Pair;
 use account::{Account, Accounts};
 use hub::Hub;
 use message_log::Log;
 use seat::Seat;
-use wire::{MESSAGE_LIMIT, PACKET_LIMIT, Refusal, Unmade};
+use wire::{MESSAGE_LIMIT, Refusal, Unmade};
 
 // The session that a hub's log without one begins.
 const FIRST_SESSION: u8 = 1;
 
+/// The three texts of an account, before they are judged and padded.
+#[derive(Clone, Copy)]
+pub struct AccountTexts<'a> {
+    /// The user name.
+    pub user: &'a [u8],
+    /// The computer ID.
+    pub computer: &'a [u8],
+    /// The application protocol.
+    pub protocol: &'a [u8],
+}
+
 impl Pair {
-    /// A pair with no connection, of an account table and of the account fields by which the seat logs in. A hub's log
+    /// A pair with no connection, of an account table and of the account texts by which the seat logs in. A hub's log
     /// without a session begins session 1. Refuses by `ShortBuffer`, by `SizeOutOfRange` where the seat's log does not
     /// follow the hub's, and by `BadAccountField`, in this order; a refusal changes nothing, and hands the table back.
     ///
     /// The logs and the buffers are lent again to each call.
     pub fn set_up<G: Log, S: Log>(
         accounts: Accounts,
-        user: &[u8],
-        computer: &[u8],
-        protocol: &[u8],
+        texts: AccountTexts<'_>,
         hub_log: &mut G,
         seat_log: &S,
-        hub_frame: &[u8],
-        seat_frame: &[u8],
-        out: &[u8],
+        buffers: &Buffers,
     ) -> Result<Pair, Unmade<Accounts>>
-        ensures { (up down : LineView) → SetsUp accounts (record { hub_log = G.Log.view hub_log.old; seat_log = S.Log.view seat_log.now; up = up; down = down; rows = accounts.rows; user = user.now; computer = computer.now; protocol = protocol.now; buffers = record { hub_frame = hub_frame.now; seat_frame = seat_frame.now; out = out.now } }) result (G.Log.view hub_log.new) }
+        ensures {
+            (up down : LineView) →
+            let held = S.Log.view seat_log.now in
+            let log = G.Log.view hub_log.old in
+            let given = parts_of log held up down accounts texts.entry buffers.now in
+            SetsUp given accounts result (G.Log.view hub_log.new)
+        }
     {
-        if hub_frame.len() < PACKET_LIMIT
-            || seat_frame.len() < PACKET_LIMIT
-            || out.len() < PACKET_LIMIT
-        {
+        if buffers.is_short() {
             return Err(Unmade {
                 refusal: Refusal::ShortBuffer,
                 given: accounts,
@@ -51,7 +62,7 @@ impl Pair {
                 given: accounts,
             });
         }
-        match Account::new(user, computer, protocol) {
+        match Account::new(texts.user, texts.computer, texts.protocol) {
             Ok(account) => {
                 start(hub_log);
                 Ok(Pair {
@@ -94,7 +105,9 @@ fn follows<S: Log, G: Log>(seat_log: &S, hub_log: &G) -> bool
 
 // Whether the messages of a log are the first ones of another.
 fn begins<S: Log, G: Log>(beginning: &S, log: &G) -> bool
-    ensures { result ≡ first_of (S.Log.view beginning.now).messages (G.Log.view log.now).messages }
+    ensures {
+        result ≡ first_of (S.Log.view beginning.now).messages (G.Log.view log.now).messages
+    }
 {
     for place in 0..beginning.count() {
         if !share(beginning, log, place + 1) {
@@ -106,7 +119,11 @@ fn begins<S: Log, G: Log>(beginning: &S, log: &G) -> bool
 
 // Whether both logs hold a message n, and it is the same.
 fn share<S: Log, G: Log>(one: &S, other: &G, n: usize) -> bool
-    ensures { result ≡ has (S.Log.view one.now) n && (has (G.Log.view other.now) n && bytes_eq (nth (S.Log.view one.now) n) (nth (G.Log.view other.now) n)) }
+    ensures {
+        let a = S.Log.view one.now in
+        let b = G.Log.view other.now in
+        result ≡ has a n && (has b n && bytes_eq (nth a n) (nth b n))
+    }
 {
     let mut message = [0; MESSAGE_LIMIT];
     let mut twin = [0; MESSAGE_LIMIT];

@@ -7,16 +7,21 @@ use Rattle.rules.specs.Rounds.{Call, Effect, Step}
 use Rattle.promises.specs.Runs.{IsPrefix, World, stepped, Run, History}
 use Rattle.promises.specs.Promises.{Holds}
 
--- from one point of a run to a later one, just these calls were made, and they answered this
-pub data Played (start : World) : List Call → List Answer → World → Type 0 where
-  none : Played start [] [] start
-  one_more : {calls : List Call} {answers : List Answer} {w : World} → Played start calls answers w → (call : Call) (d : Effect) → Step w.pair call d →
-      Played start (calls ++ call ∷ []) (answers ++ d.answer ∷ []) (stepped w call d)
+-- by the rules just these calls, with these answers, lead from one pair to another
+pub data Leads (s : Pair) : List (Call × Answer) → Pair → Type 0 where
+  none : Leads s [] s
+  one_more : {made : List (Call × Answer)} {t : Pair} → Leads s made t → (call : Call) (d : Effect) → Step t call d → Leads s (made ++ (call, d.answer) ∷ []) d.after
+
+-- the same from one point of a run to a later one
+pub data LeadsOn (v : World) : List (Call × Answer) → World → Type 0 where
+  no_call : LeadsOn v [] v
+  then : {made : List (Call × Answer)} {w : World} → LeadsOn v made w → (call : Call) (d : Effect) → Step w.pair call d →
+      LeadsOn v (made ++ (call, d.answer) ∷ []) (stepped w call d)
 
 -- What the promises say at a point of a run.
 pub record Promised (o : Pair) (w : World) : Type 0 where
   pub history : History Step o w
-  -- the seat's log is a beginning of what the book has for the session that it bears
+  -- the seat's log is a prefix of what the book has for the session that it bears
   pub never_wrong : IsPrefix w.pair.held.messages (w.book.lists w.pair.held.session)
   -- it has all that it held at any earlier point, if it bore this session there
   pub never_shorter : (v : World) → History Step o v → Run Step v w → w.pair.held.session ≡ v.pair.held.session → IsPrefix v.pair.held.messages w.pair.held.messages
@@ -24,18 +29,18 @@ pub record Promised (o : Pair) (w : World) : Type 0 where
   pub in_step_is_true : w.pair.seat.in_step ≡ true → Holds w.note w.pair.held
 
 -- From a point of a run these calls, with these answers, have led to this pair, and the promises hold of it.
-pub record Followed (o : Pair) (v : World) (calls : List Call) (answers : List Answer) (t : Pair) : Type 0 where
+pub record Followed (o : Pair) (v : World) (made : List (Call × Answer)) (t : Pair) : Type 0 where
   pub now : World
   pub stands : now.pair ≡ t
-  pub played : Played v calls answers now
+  pub led : LeadsOn v made now
   pub promised : Promised o now
 
 -- so it is whatever history led to the first pair
-abbrev pub Keeps : Pair → List Call → List Answer → Pair → Type 0
-Keeps s calls answers t = (o : Pair) (v : World) → History Step o v → v.pair ≡ s → Followed o v calls answers t
+abbrev pub Keeps : Pair → List (Call × Answer) → Pair → Type 0
+Keeps s made t = (o : Pair) (v : World) → History Step o v → v.pair ≡ s → Followed o v made t
 
 -- A call was performed: by a step of the rules, and with the promises kept.
-pub record Performed (s : Pair) (call : Call) (answer : Answer) (t : Pair) : Type 0 where
+pub record Performs (s : Pair) (call : Call) (answer : Answer) (t : Pair) : Type 0 where
   pub wrote : Option Value
   pub step : Step s call (record { answer = answer; wrote = wrote; after = t })
-  pub keeps : Keeps s (call ∷ []) (answer ∷ []) t
+  pub keeps : Keeps s ((call, answer) ∷ []) t

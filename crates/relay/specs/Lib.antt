@@ -1,4 +1,6 @@
 pub mod Calls
 pub mod Histories
+pub mod Slots
 pub mod Levels
-pub mod Scripts
+pub mod OwnedPairs
+pub mod CallHistory

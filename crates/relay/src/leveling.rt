@@ -1,18 +1,18 @@
 //! Bringing a seat level with the hub.
-ghost use Rattle.std.specs.Prelude.{◌≡◌, ◌+◌, ◌-◌, ◌≤◌, length, Ok};
-ghost use Rattle.wire.specs.Limits.{packet_limit};
+ghost use Rattle.std.specs.Prelude.{◌≡◌, ◌+◌, ◌-◌, false, Ok};
 ghost use Rattle.message_log.specs.Meaning.{count};
 ghost use Rattle.rules.specs.Calls.{asked_number};
 ghost use Rattle.rules.specs.Rounds.{Step};
 ghost use Rattle.promises.specs.Runs.{GrantedRounds};
+ghost use Rattle.pair.specs.Lent.{any_short};
 ghost use Rattle.pair.specs.Meanings.{pair_of};
-ghost use Rattle.relay.specs.Levels.{how_of, Brings};
+ghost use Rattle.relay.specs.Levels.{how_of, answered_by, BringsLevel};
 
 use line::SteadyLine;
 use message_log::Log;
-use pair::Pair;
-use rules::How;
-use wire::{PACKET_LIMIT, Refusal};
+use pair::{Buffers, Pair};
+use rules::{How, SeatPhase};
+use wire::{Refusal, Status};
 
 /// How a seat connects that is to be brought level.
 #[derive(Clone, Copy)]
@@ -35,7 +35,7 @@ impl Way {
     }
 
     // How many rounds it takes: two more than the hub holds, less the number that the login asks for.
-    fn rounds<G: Log, S: Log>(self, hub_log: &G, seat_log: &S) -> usize
+    pub(crate) fn rounds<G: Log, S: Log>(self, hub_log: &G, seat_log: &S) -> usize
         ensures { result ≡ count (G.Log.view hub_log.now) + 2 - asked_number (how_of self) (S.Log.view seat_log.now) }
     {
         let asked = match self {
@@ -47,8 +47,9 @@ impl Way {
 }
 
 /// Brings a seat level with the hub: connects by join or anew, and goes as many rounds as that takes. If the login is
-/// accepted and the seat's log has room and places for what it lacks, it is the hub's then. Refuses by `ShortBuffer`,
-/// with nothing changed.
+/// accepted and the seat's log has room and places for what it lacks, it is the hub's then. It answers what the hub
+/// answered the login, or `None` if the lines had no room for the login or its answer. Refuses by `ShortBuffer`, with
+/// nothing changed.
 pub fn bring_level<G: Log, S: Log, U: SteadyLine, D: SteadyLine>(
     pair: &mut Pair,
     way: Way,
@@ -56,48 +57,60 @@ pub fn bring_level<G: Log, S: Log, U: SteadyLine, D: SteadyLine>(
     seat_log: &mut S,
     up: &mut U,
     down: &mut D,
-    hub_frame: &mut [u8],
-    seat_frame: &mut [u8],
-    out: &mut [u8],
-) -> Result<(), Refusal>
-    ensures { Brings (how_of way) (pair_of pair.old (G.Log.view hub_log.now) (S.Log.view seat_log.old) (U.Line.view up.old) (D.Line.view down.old) hub_frame.old seat_frame.old out.old) result (pair_of pair.new (G.Log.view hub_log.now) (S.Log.view seat_log.new) (U.Line.view up.new) (D.Line.view down.new) hub_frame.new seat_frame.new out.new) }
+    buffers: &mut Buffers,
+) -> Result<Option<Status>, Refusal>
+    ensures {
+        let log = G.Log.view hub_log.now in
+        let before = pair_of pair.old log (S.Log.view seat_log.old)
+            (U.Line.view up.old) (D.Line.view down.old) buffers.old in
+        let after = pair_of pair.new log (S.Log.view seat_log.new)
+            (U.Line.view up.new) (D.Line.view down.new) buffers.new in
+        BringsLevel (how_of way) before result after
+    }
 {
-    if hub_frame.len() < PACKET_LIMIT {
-        return Err(Refusal::ShortBuffer);
-    }
-    if seat_frame.len() < PACKET_LIMIT {
-        return Err(Refusal::ShortBuffer);
-    }
-    if out.len() < PACKET_LIMIT {
+    if buffers.is_short() {
         return Err(Refusal::ShortBuffer);
     }
     let rounds = way.rounds(hub_log, seat_log);
-    pair.connect(way.how(), seat_log, up, down, out)?;
-    go(
-        pair, rounds, hub_log, seat_log, up, down, hub_frame, seat_frame, out,
-    )
+    pair.connect(way.how(), seat_log, up, down, buffers)?;
+    go_rounds(pair, rounds, hub_log, seat_log, up, down, buffers)?;
+    Ok(login_answer(pair.seat_phase(), pair.status()))
+}
+
+// What the hub answered a login, of a seat in this phase that was rejected by this status.
+pub(crate) fn login_answer(phase: SeatPhase, rejected: Option<Status>) -> Option<Status>
+    ensures { result ≡ answered_by phase rejected }
+{
+    match (rejected, phase) {
+        (Some(status), _) => Some(status),
+        (None, SeatPhase::Asking) => None,
+        (None, SeatPhase::Apart | SeatPhase::Live) => Some(Status::Accepted),
+    }
 }
 
 // Goes so many rounds.
-fn go<G: Log, S: Log, U: SteadyLine, D: SteadyLine>(
+fn go_rounds<G: Log, S: Log, U: SteadyLine, D: SteadyLine>(
     pair: &mut Pair,
     rounds: usize,
     hub_log: &G,
     seat_log: &mut S,
     up: &mut U,
     down: &mut D,
-    hub_frame: &mut [u8],
-    seat_frame: &mut [u8],
-    out: &mut [u8],
+    buffers: &mut Buffers,
 ) -> Result<(), Refusal>
-    requires hub_frame { packet_limit ≤ length hub_frame.old }
-    requires seat_frame { packet_limit ≤ length seat_frame.old }
-    requires out { packet_limit ≤ length out.old }
+    requires { any_short buffers.old ≡ false }
     ensures granted { result ≡ Ok tt }
-    ensures rounds { GrantedRounds Step rounds (pair_of pair.old (G.Log.view hub_log.now) (S.Log.view seat_log.old) (U.Line.view up.old) (D.Line.view down.old) hub_frame.old seat_frame.old out.old) (pair_of pair.new (G.Log.view hub_log.now) (S.Log.view seat_log.new) (U.Line.view up.new) (D.Line.view down.new) hub_frame.new seat_frame.new out.new) }
+    ensures rounds {
+        let log = G.Log.view hub_log.now in
+        let before = pair_of pair.old log (S.Log.view seat_log.old)
+            (U.Line.view up.old) (D.Line.view down.old) buffers.old in
+        let after = pair_of pair.new log (S.Log.view seat_log.new)
+            (U.Line.view up.new) (D.Line.view down.new) buffers.new in
+        GrantedRounds Step rounds before after
+    }
 {
     for _ in 0..rounds {
-        pair.round(hub_log, seat_log, up, down, hub_frame, seat_frame, out)?;
+        pair.round(hub_log, seat_log, up, down, buffers)?;
     }
     Ok(())
 }

@@ -1,39 +1,51 @@
 //! Lists of calls on a pair.
-ghost use Rattle.std.specs.Prelude.{◌≡◌, map, MatchResult};
 ghost use Rattle.pair.specs.Meanings.{pair_of};
-ghost use Rattle.relay.specs.Calls.{call_of};
-ghost use Rattle.relay.specs.Histories.{Keeps};
+ghost use Rattle.relay.specs.Slots.{Runs};
 
 use crate::commands::Call;
 use crate::performing::perform;
 use line::SteadyLine;
 use message_log::Log;
-use pair::Pair;
+use pair::{Buffers, Pair};
 use rules::Answer;
-use std::alloc::{AllocError, Global};
 
-/// Performs calls one after the other, granted or refused, and gives their answers in this order. Fails, with no call
-/// made, if there is no memory for the answers.
+/// A call, and what it answered once it was made.
+#[derive(Clone, Copy)]
+pub struct Slot<'a> {
+    pub call: Call<'a>,
+    pub answer: Option<Answer>,
+}
+
+impl<'a> From<Call<'a>> for Slot<'a> {
+    ghost use Rattle.std.specs.Prelude.{◌≡◌, None};
+
+    ghost from_gives = { λ call slot. slot ≡ record { call = call; answer = None } };
+
+    fn from(call: Call<'a>) -> Slot<'a> {
+        Slot { call, answer: None }
+    }
+}
+
+/// Performs the calls of these slots one after the other, granted or refused, and puts the answer of each into its slot.
 pub fn run<G: Log, S: Log, U: SteadyLine, D: SteadyLine>(
-    heap: Global,
     pair: &mut Pair,
-    calls: &[Call],
+    slots: &mut [Slot<'_>],
     hub_log: &mut G,
     seat_log: &mut S,
     up: &mut U,
     down: &mut D,
-    hub_frame: &mut [u8],
-    seat_frame: &mut [u8],
-    out: &mut [u8],
-) -> Result<Vec<Answer>, AllocError>
-    ensures { let before = pair_of pair.old (G.Log.view hub_log.old) (S.Log.view seat_log.old) (U.Line.view up.old) (D.Line.view down.old) hub_frame.old seat_frame.old out.old in let after = pair_of pair.new (G.Log.view hub_log.new) (S.Log.view seat_log.new) (U.Line.view up.new) (D.Line.view down.new) hub_frame.new seat_frame.new out.new in MatchResult result (λ answers. Keeps before (map call_of calls.now) answers.items after) (λ _. after ≡ before) }
-{
-    let mut answers = Vec::with_capacity(heap, calls.len())?;
-    for call in calls {
-        let answer = perform(
-            pair, *call, hub_log, seat_log, up, down, hub_frame, seat_frame, out,
-        );
-        answers.push_reserved(answer);
+    buffers: &mut Buffers,
+)
+    ensures {
+        let before = pair_of pair.old (G.Log.view hub_log.old) (S.Log.view seat_log.old)
+            (U.Line.view up.old) (D.Line.view down.old) buffers.old in
+        let after = pair_of pair.new (G.Log.view hub_log.new) (S.Log.view seat_log.new)
+            (U.Line.view up.new) (D.Line.view down.new) buffers.new in
+        Runs before slots.old slots.new after
     }
-    Ok(answers)
+{
+    for slot in slots.iter_mut() {
+        let answer = perform(pair, slot.call, hub_log, seat_log, up, down, buffers);
+        slot.answer = Some(answer);
+    }
 }

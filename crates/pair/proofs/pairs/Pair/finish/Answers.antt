@@ -5,5 +5,5 @@ use Rattle.pair.proofs.Sides.{hub_does, of_finish}
 use Rattle.pair.proofs.pairs.Pair.finish.Goals as goal
 
 pub returns : goal.returns
-returns c hub_log seat_log up down hub_frame seat_frame out =
-    hub_does finish Finish _ _ _ of_finish refl (λ q. finishes) refl (c.finish.ensures hub_log up down c.args.self.now.accounts.rows hub_frame out)
+returns c hub_log seat_log up down lent =
+    hub_does finish Finish _ _ _ of_finish refl (λ q. finishes) refl (c.finish.ensures hub_log up down c.args.self.now.accounts.rows lent.hub_frame lent.out)

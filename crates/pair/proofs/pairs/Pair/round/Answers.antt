@@ -1,25 +1,37 @@
-use Rattle.std.proofs.Common.{None, arith}
-use Rattle.std.proofs.lemmas.Bool.{or_left, or_right, or_from}
+use Rattle.std.proofs.Common.{◌≡◌, false, None, sym, ◌∙◌}
 use Rattle.rules.specs.Rounds.{Round, short_buffer}
-use Rattle.pair.proofs.Drains.{long, both_long, short, round_goes}
+use Rattle.rules.proofs.Keeps.{buffers_last}
+use Rattle.pair.proofs.Drains.{AllLong, long, all_long, longer, round_goes}
 use Rattle.pair.proofs.pairs.Pair.round.Goals as goal
 
-pub returns-then-hub_frame-lt-PACKET_LIMIT : goal.returns-then-hub_frame-lt-PACKET_LIMIT
-returns-then-hub_frame-lt-PACKET_LIMIT g c = (None, short_buffer Round (or_left _ _ (short c.args.hub_frame.now (omega arith))))
+pub returns-then-is_short : goal.returns-then-is_short
+returns-then-is_short g c = (None, short_buffer Round (sym c.is_short.ensures ∙ c.if-is_short.true))
 
-pub returns-then-seat_frame-lt-PACKET_LIMIT : goal.returns-then-seat_frame-lt-PACKET_LIMIT
-returns-then-seat_frame-lt-PACKET_LIMIT g c = (None, short_buffer Round (or_right _ _ (or_left _ _ (short c.args.seat_frame.now (omega arith)))))
+pub drain_hub-hub-requires : goal.drain_hub-hub-requires
+drain_hub-hub-requires g c =
+    let a = all_long c.args.buffers.now (sym c.is_short.ensures ∙ c.if-is_short.false) in
+    record { frame = a.hub_frame; out = a.out }
 
-pub returns-then-out-lt-PACKET_LIMIT : goal.returns-then-out-lt-PACKET_LIMIT
-returns-then-out-lt-PACKET_LIMIT g c = (None, short_buffer Round (or_right _ _ (or_right _ _ (short c.args.out.now (omega arith)))))
+pub drain_seat-seat-requires : goal.drain_seat-seat-requires
+drain_seat-seat-requires g c =
+    let a = all_long c.args.buffers.now (sym c.is_short.ensures ∙ c.if-is_short.false) in
+    let heard = longer c.drain_hub-hub.ensures.lengths a in
+    let sent = longer (buffers_last _ _ _ (c.hub_send.ensures (g.S.Log.view c.args.seat_log.now) (g.U.Line.view c.drain_hub-hub.new.up)).1) heard in
+    record { frame = sent.seat_frame; out = sent.out }
 
 pub returns : goal.returns
 returns g c =
+    let held = g.S.Log.view c.args.seat_log.now in
+    let a = all_long c.args.buffers.now (sym c.is_short.ensures ∙ c.if-is_short.false) in
+    let heard = longer c.drain_hub-hub.ensures.lengths a in
+    let hub_sent = c.hub_send.ensures held (g.U.Line.view c.drain_hub-hub.new.up) in
+    let sent = longer (buffers_last _ _ _ hub_sent.1) heard in
+    let taken = longer c.drain_seat-seat.ensures.lengths sent in
     round_goes _ _ _ _ _ _ c.hub_send.result c.seat_send.result
-    (or_from _ _ (long c.args.hub_frame.now (omega arith)) (both_long c.args.seat_frame.now c.args.out.now (omega arith) (omega arith)))
-    (c.drain_hub-hub.ensures (g.S.Log.view c.args.seat_log.now) c.args.seat_frame.now)
-    (long c.drain_hub-hub.new.out (omega arith))
-    (c.hub_send.ensures _ _ _ _)
-    (c.drain_seat-seat.ensures (g.G.Log.view c.args.hub_log.now) c.drain_hub-hub.new.hub_frame)
-    (long c.drain_seat-seat.new.out (omega arith))
-    (c.seat_send.ensures _ _ _ _)
+    (sym c.is_short.ensures ∙ c.if-is_short.false)
+    (c.drain_hub-hub.ensures.drained held)
+    (long c.drain_hub-hub.new.buffers.out heard.out)
+    hub_sent
+    (c.drain_seat-seat.ensures.drained (g.G.Log.view c.args.hub_log.now))
+    (long c.drain_seat-seat.new.buffers.out taken.out)
+    (c.seat_send.ensures _ _)

@@ -1,7 +1,10 @@
-use Rattle.std.proofs.Common.{refl}
+use Rattle.std.proofs.Common.{refl, ◌∙◌}
+use Rattle.std.proofs.lemmas.List.{with_items_is}
 use Rattle.seat.specs.Asks.{fields_of}
-use Rattle.pair.proofs.Sides.{seat_takes}
+use Rattle.pair.proofs.Sides.{seat_receives_once}
 use Rattle.pair.proofs.pairs.Pair.seat_receive.Goals as goal
 
 pub returns : goal.returns
-returns g c hub_log hub_frame = seat_takes _ _ _ refl (c.receive.ensures (fields_of c.args.self.now.account))
+returns g c hub_log =
+    rw (← c.buffers.view_is, with_items_is c.buffers.inside.seat_frame c.receive.new.frame (c.receive.auto.frame ∙ c.deref_mut.ensures.len), with_items_is c.buffers.inside.out c.receive.new.out (c.receive.auto.out ∙ c.deref_mut-2.ensures.len), ← c.deref_mut.ensures.value, ← c.deref_mut-2.ensures.value)
+    (seat_receives_once _ _ _ refl (c.receive.ensures (fields_of c.args.self.now.account)))

@@ -1,0 +1,4 @@
+use Rattle.pair.proofs.pairs.Pair.hub_phase.Goals as goal
+
+pub returns : goal.returns
+returns c hub_log seat_log up down lent = c.phase.ensures lent.hub_frame
