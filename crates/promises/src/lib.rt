@@ -1,8 +1,8 @@
 //! The promises of a pair, proved of every run of its rules.
 //!
 //! A **run** is a list of calls on a pair that was set up, each granted or refused. The **book** goes along with
-//! it: it is fed the hub's log after set-up, then each call with its message and its answer, and keeps what was
-//! published in each session. The three promises are laws over runs (`specs/Promises.antt`), and so is
+//! it: it begins with the log of a hub that was just set up, hears of each call its message and its answer, and keeps
+//! what was published in each session. The three promises are laws over runs (`specs/Promises.antt`), and so is
 //! when synchronization complete goes out (`specs/Completes.antt`); the functions of this crate do nothing, and each
 //! carries one of them as its contract.
 //!
