@@ -11,7 +11,7 @@ ghost use Rattle.counterexamples.specs.Early.{EarlyCompleteLies};
 ghost use Rattle.counterexamples.specs.Kept.{KeptFrameMisleads};
 ghost use Rattle.counterexamples.specs.Refusing.{NextNumberPasses, RefusingLocksOut, RefusingStrands};
 
-/// A hub that writes synchronization complete at the highest number of the login, while newer messages wait,
+/// A hub that writes synchronization complete at the highest number of the login, before the later ones are sent,
 /// makes a seat report itself in step that is not.
 pub fn early_complete_lies()
     ensures { EarlyCompleteLies }

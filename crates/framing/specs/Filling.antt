@@ -7,10 +7,12 @@ use Rattle.rules.specs.Frames.{lack, given, left, Free}
 
 -- how many bytes are wanted behind the first `held` of a frame's buffer
 abbrev pub wanted : ℕ → List ℕ → ℕ
-wanted held buffer = cond (nat_le packet_limit (length buffer) && nat_le held packet_limit) (lack (take held buffer)) 0
+wanted held buffer =
+    cond (nat_le packet_limit (length buffer) && nat_le held packet_limit) (lack (take held buffer)) 0
 
 -- at most n bytes were taken into a buffer from an offset on, and k came
-pub record Filled (before : LineView) (bytes : List ℕ) (at n k : ℕ) (after : LineView) (filled : List ℕ) : Type 0 where
+pub record Filled (before : LineView) (bytes : List ℕ) (at n k : ℕ) (after : LineView) (filled : List ℕ) :
+    Type 0 where
   pub count : k ≡ length (given before n)
   pub line : after ≡ left before n after.room
   pub free : Free before n after.room

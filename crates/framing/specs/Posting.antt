@@ -30,7 +30,8 @@ posting_message log n line out =
     (Err NoSuchMessage)
 
 -- granted, the packet stands behind what waits and at the front of the buffer; refused, nothing changes
-pub record Posted (v : Value) (says : Result (Unit {0}) Refusal) (before : LineView) (out : List ℕ) (r : Result (Unit {0}) Refusal) (after : LineView) (filled : List ℕ) : Type 0 where
+pub record Posted (v : Value) (says : Result (Unit {0}) Refusal) (before : LineView) (out : List ℕ)
+    (r : Result (Unit {0}) Refusal) (after : LineView) (filled : List ℕ) : Type 0 where
   pub answer : r ≡ says
   pub line : after ≡ settled r (joined before (encode v)) before
   pub buffer : filled ≡ settled r (fronted (encode v) out) out

@@ -1,5 +1,5 @@
 //! Frames: the bytes that are in of a packet which is not whole yet.
-//! A take brings at most what the frame still lacks, so a frame never holds more than one packet.
+//! A take brings no more bytes than the frame lacks, so a frame never holds more than one packet.
 ghost use Rattle.std.specs.Prelude.{◌≡◌, ◌+◌, ◌-◌, ◌≤◌, length};
 ghost use Rattle.rules.specs.Frames.{lack};
 ghost use Rattle.framing.specs.Filling.{Filled, wanted};
@@ -7,7 +7,7 @@ ghost use Rattle.framing.specs.Filling.{Filled, wanted};
 use line::SteadyLine;
 use wire::PACKET_LIMIT;
 
-/// Takes once from the line, at most what the frame still lacks, and says how many bytes came. The frame is the
+/// Takes from the line, no more bytes than the frame lacks, and says how many came. The frame is the
 /// first `held` bytes of its buffer, and what comes is laid behind it. Where the buffer could not hold the longest
 /// packet, or more than that is held, nothing is taken.
 #[inline(always)]

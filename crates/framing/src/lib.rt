@@ -12,5 +12,5 @@ pub mod ticking;
 
 pub use filling::fill;
 pub use judging::{is_part, judge};
-pub use posting::{MESSAGE_OFFSET, has_room, post, post_message};
+pub use posting::{has_room, post, post_message};
 pub use ticking::{BEAT_AFTER, SILENCE_LIMIT, one_more};

@@ -12,17 +12,14 @@ ghost use Rattle.framing.specs.Posting.{Posted, posting, posting_message};
 
 use line::Line;
 use message_log::Log;
-use packet::Packet;
+use packet::{HEAD_LEN, Packet, head};
 use wire::{Letter, PACKET_LIMIT, Refusal, lay, number_bytes};
 
-/// The offset of the message in an unsequenced packet: behind the length number and the letter.
-pub const MESSAGE_OFFSET: usize = 3;
+// The offset of the message in a sequenced packet: behind its head and the sequence number.
+const MESSAGE_OFFSET: usize = HEAD_LEN + 8;
 
-// How many bytes of a sequenced packet stand before its message: length number, letter and sequence number.
-const HEAD: usize = 11;
-
-// How many of those its length number counts: letter and sequence number.
-const COUNTED_HEAD: u16 = 9;
+// What the length number of a sequenced packet counts besides the message: the letter and the sequence number.
+const COUNTED: u16 = 9;
 
 /// Whether the line has the room for a packet.
 #[tactic(auto, using(packet::proofs::Back::length_encode))]
@@ -67,7 +64,7 @@ pub fn post_message<G: Log, L: Line>(
     if out.len() < PACKET_LIMIT {
         return Err(Refusal::ShortBuffer);
     }
-    let size = length + HEAD;
+    let size = length + MESSAGE_OFFSET;
     if line.room() < size {
         return Err(Refusal::LineFull);
     }
@@ -83,16 +80,16 @@ fn lay_message<G: Log>(number: u64, bytes: u16, log: &G, out: &mut [u8])
     ensures { let value = sequenced number (nth (G.Log.view log.now) number) in
         out.new ≡ fronted (encode value) out.old }
 {
-    lay(out, 0, &head(number, bytes));
-    let _ = log.read(number as usize, &mut out[HEAD..]);
+    lay(out, 0, &before_message(number, bytes));
+    let _ = log.read(number as usize, &mut out[MESSAGE_OFFSET..]);
 }
 
-// The head of a sequenced packet: what stands before a message of so many bytes.
-fn head(number: u64, bytes: u16) -> [u8; HEAD]
+// What stands before a message of so many bytes: the packet's head and the sequence number.
+fn before_message(number: u64, bytes: u16) -> [u8; MESSAGE_OFFSET]
     requires { bytes ≤ message_limit }
-    ensures { result ≡ little 2 (bytes + COUNTED_HEAD) ++ (0x53 ∷ little 8 number) }
+    ensures { result ≡ little 2 (bytes + COUNTED) ++ (0x53 ∷ little 8 number) }
 {
-    let [low, high] = (bytes + COUNTED_HEAD).to_le_bytes();
+    let [low, high, letter] = head(bytes + COUNTED, Letter::Sequenced);
     let [a, b, c, d, e, f, g, h] = number_bytes(number);
-    [low, high, Letter::Sequenced.into(), a, b, c, d, e, f, g, h]
+    [low, high, letter, a, b, c, d, e, f, g, h]
 }

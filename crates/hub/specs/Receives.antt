@@ -15,10 +15,13 @@ abbrev pub hears : Pair → ℕ → Outcome Received
 hears s room = hub_hears (given s.up (lack s.hub.frame)) (left s.up (lack s.hub.frame) room) s
 
 abbrev pub receives : Pair → ℕ → Outcome Received
-receives s room = cond (lent_short HubReceive s) (refuses ShortBuffer s) (cond (listens s.hub.phase) (hears s room) (refuses WrongPhase s))
+receives s room =
+    cond (lent_short HubReceive s) (refuses ShortBuffer s)
+    (cond (listens s.hub.phase) (hears s room) (refuses WrongPhase s))
 
 -- The answer and all of the side are the rule's, at the room that the up line then has: that room is free.
 pub record Receives (s : Pair) (r : Result Received Refusal) (t : Pair) : Type 0 where
   pub outcome : answered r t ≡ receives s t.up.room
-  pub free : lent_short HubReceive s ≡ false → listens s.hub.phase ≡ true → Free s.up (lack s.hub.frame) t.up.room
+  pub free : lent_short HubReceive s ≡ false → listens s.hub.phase ≡ true →
+      Free s.up (lack s.hub.frame) t.up.room
   pub fewer : Fewer r s.up t.up

@@ -11,9 +11,8 @@ ghost use Rattle.hub.specs.Acts.{closing};
 
 use crate::state::HubState;
 use account::Accounts;
-use framing::MESSAGE_OFFSET;
 use message_log::Log;
-use packet::{Login, Packet};
+use packet::{HEAD_LEN, Login, Packet};
 use rules::{HubPhase, Received};
 use wire::{Field, Letter, PacketFault};
 
@@ -43,7 +42,7 @@ impl HubState {
                 HubPhase::Serving { .. } | HubPhase::Filling { .. },
                 Packet::Unsequenced { message },
             ) => Ok(Received::Message {
-                offset: MESSAGE_OFFSET,
+                offset: HEAD_LEN,
                 length: message.len(),
             }),
             (HubPhase::Serving { .. } | HubPhase::Filling { .. }, Packet::LogoutRequest { .. }) => {

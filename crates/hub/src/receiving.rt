@@ -1,5 +1,5 @@
 //! What the hub hears.
-//! One take, at most what the frame still lacks; a packet that is whole then is acted on.
+//! One take, of no more bytes than the frame lacks; a packet that is whole then is acted on.
 ghost use Rattle.std.specs.Prelude.{◌≡◌, ℕ, ◌≤◌, List, length, take};
 ghost use Rattle.wire.specs.Limits.{packet_limit};
 ghost use Rattle.line.specs.Lines.{LineView};

@@ -16,3 +16,4 @@ pub mod writing;
 pub use letter_counts::LetterCounts;
 pub use packets::{Login, Packet};
 pub use reading::Reader;
+pub use writing::{HEAD_LEN, head};

@@ -6,9 +6,10 @@
 //!         | length | letter| body                 | left untouched  |
 //!         +--------+-------+----------------------+ - - - - - - - - +
 //! ```
-ghost use Rattle.std.specs.Prelude.{◌≡◌, ◌+◌, ◌≤◌, true, ◌∷◌, ◌++◌, length, drop, IfOk};
+ghost use Rattle.std.specs.Prelude.{◌≡◌, ◌+◌, ◌≤◌, true, [], ◌∷◌, ◌++◌, length, drop, IfOk};
 ghost use Rattle.wire.specs.Limits.{length_limit};
 ghost use Rattle.wire.specs.Numbers.{little};
+ghost use Rattle.wire.specs.Letters.{letter_byte};
 ghost use Rattle.packet.specs.declared.packets.Packet.TheVariants.{LoginRequest};
 ghost use Rattle.packet.specs.Meanings.{value_of};
 ghost use Rattle.packet.specs.Values.{Fields, Valid, body, length_number};
@@ -16,7 +17,10 @@ ghost use Rattle.wire.specs.Overlay.{laid};
 ghost use Rattle.packet.specs.Writing.{Written, widths, writable as writable_of};
 
 use crate::packets::{Login, Packet};
-use wire::{PACKET_LIMIT, PacketFault, Refusal, lay, number_bytes};
+use wire::{Letter, PACKET_LIMIT, PacketFault, Refusal, lay, number_bytes};
+
+/// How many bytes of a packet stand before its body: the length number and the letter.
+pub const HEAD_LEN: usize = 3;
 
 impl Packet<'_> {
     /// Writes the packet at the front of `out` and gives its length. A buffer that is too short is refused
@@ -29,7 +33,7 @@ impl Packet<'_> {
             return Err(Refusal::ShortBuffer);
         }
         let length = self.writable()?;
-        put_head(out, length as u16, self.letter().into());
+        put_head(out, length as u16, self.letter());
         self.put_body(out);
         Ok(length + 2)
     }
@@ -114,21 +118,31 @@ impl Packet<'_> {
                 session,
                 highest,
             } => {
-                put_two(out, 3, &[status.into(), session], &number_bytes(highest));
+                put_two(
+                    out,
+                    HEAD_LEN,
+                    &[status.into(), session],
+                    &number_bytes(highest),
+                );
             }
             Packet::Sequenced { number, message } => put_two(
                 out,
-                3,
+                HEAD_LEN,
                 &number_bytes(number),
                 message,
             ),
-            Packet::Unsequenced { message } => lay(out, 3, message),
+            Packet::Unsequenced { message } => lay(out, HEAD_LEN, message),
             Packet::RetransmissionRequest { start, end } => {
-                put_two(out, 3, &number_bytes(start), &number_bytes(end));
+                put_two(out, HEAD_LEN, &number_bytes(start), &number_bytes(end));
             }
-            Packet::LogoutRequest { reason, text } => put_two(out, 3, &[reason.into()], text),
-            Packet::GoodBye { reason, text } => put_two(out, 3, &[reason.into()], text),
-            Packet::Test { text } => lay(out, 3, text),
+            Packet::LogoutRequest { reason, text } => put_two(
+                out,
+                HEAD_LEN,
+                &[reason.into()],
+                text,
+            ),
+            Packet::GoodBye { reason, text } => put_two(out, HEAD_LEN, &[reason.into()], text),
+            Packet::Test { text } => lay(out, HEAD_LEN, text),
             Packet::SynchronizationComplete
             | Packet::EndOfSession
             | Packet::HubHeartbeat
@@ -137,14 +151,22 @@ impl Packet<'_> {
     }
 }
 
-// The length number and the letter.
+/// The head of a packet: its length number, which counts the letter and the body, and its letter.
 #[inline(always)]
-fn put_head(out: &mut [u8], count: u16, letter: u8)
-    requires { 3 ≤ length out.old }
-    ensures { out.new ≡ little 2 count ++ (letter ∷ drop 3 out.old) }
+pub fn head(length: u16, letter: Letter) -> [u8; HEAD_LEN]
+    ensures { result ≡ little 2 length ++ (letter_byte letter ∷ []) }
 {
-    let [low, high] = count.to_le_bytes();
-    lay(out, 0, &[low, high, letter]);
+    let [low, high] = length.to_le_bytes();
+    [low, high, letter.into()]
+}
+
+// Writes the head.
+#[inline(always)]
+fn put_head(out: &mut [u8], count: u16, letter: Letter)
+    requires { 3 ≤ length out.old }
+    ensures { out.new ≡ little 2 count ++ (letter_byte letter ∷ drop 3 out.old) }
+{
+    lay(out, 0, &head(count, letter));
 }
 
 // The body of a login request.
@@ -154,7 +176,7 @@ fn put_login(out: &mut [u8], login: Login<'_>)
     requires room { 38 ≤ length out.old }
     ensures { out.new ≡ laid out.old 3 (body (value_of (LoginRequest login.entry))) }
 {
-    put_two(out, 3, login.version, login.user);
+    put_two(out, HEAD_LEN, login.version, login.user);
     put_two(out, 13, login.computer, login.protocol);
     put_two(out, 29, &[login.session], &number_bytes(login.number));
 }

@@ -400,12 +400,9 @@ pub data HubTimed (s : Pair) : Pair → Type 0 where
   hub_late : HubTimed s (hub_gone G.LoginTimeout s)
 
 pub hub_timed_lem : (h : HubPhase) (s : Pair) → HubTimed s (hub_timed h s)
-hub_timed_lem Shut s = hub_lasts
 hub_timed_lem Waiting s = cond_both (ltb waiting_limit s.hub.waited) (hub_gone G.LoginTimeout s) s (HubTimed s) (λ t. hub_late) (λ t. hub_lasts)
-hub_timed_lem (Answering q) s = hub_lasts
-hub_timed_lem (Rejecting t) s = hub_lasts
 hub_timed_lem (Serving q n d) s = cond_both (ltb silence_limit s.hub.silent) (hub_leaves Shut s) s (HubTimed s) (λ t. hub_lost) (λ t. hub_lasts)
-hub_timed_lem (Filling n l) s = hub_lasts
+hub_timed_lem phase s = hub_lasts
 
 pub data SeatTimed (s : Pair) : Pair → Type 0 where
   seat_lasts : SeatTimed s s

@@ -10,3 +10,5 @@ pub mod Tells
 pub mod Catch
 pub mod Made
 pub mod Begun
+pub mod Moves
+pub mod Completes

@@ -7,7 +7,7 @@ use Rattle.std.proofs.ByRecursion.{All-push, All-weaker}
 use Rattle.std.proofs.lemmas.Bool.{cond_both, eq-eqb, ne_eqb, cond-true, cond-false, cases_Bool}
 use Rattle.wire.specs.Limits.{message_limit}
 use Rattle.wire.specs.declared.statuses.Status.{Status}
-use Rattle.wire.specs.declared.statuses.Status.TheVariants.{Accepted, UnknownUser, SessionUnavailable, InvalidNumber, WrongVersion, WrongProtocol, AlreadyLoggedIn}
+use Rattle.wire.specs.declared.statuses.Status.TheVariants.{Accepted}
 use Rattle.packet.specs.Values.{Value, Valid, login_request, login_response, sequenced, unsequenced, synchronization_complete, retransmission_request, logout_request, good_bye, end_of_session, hub_heartbeat, seat_heartbeat, test, encode}
 use Rattle.message_log.specs.Meaning.{Meaning, count, room, begun, size_limit}
 use Rattle.message_log.specs.Meaning as Log
@@ -27,54 +27,33 @@ use Rattle.promises.proofs.Packets.{sesm}
 
 -- phases in which the hub's session is the connection's
 abbrev pub bound : HubPhase → Bool
-bound Shut = false
 bound Waiting = true
 bound (Answering q) = true
-bound (Rejecting x) = false
 bound (Serving q n d) = true
 bound (Filling n l) = true
+bound phase = false
 
 -- phases in which the hub has written nothing on this connection
 abbrev pub early : HubPhase → Bool
-early Shut = false
 early Waiting = true
 early (Answering q) = true
 early (Rejecting x) = true
-early (Serving q n d) = false
-early (Filling n l) = false
+early phase = false
 
 -- what a packet to the seat says is so, of the messages ms of session x
 abbrev pub HonestResponse : Status → ℕ → ℕ → Type 0
 HonestResponse Accepted s x = (s ≡ x) × (0 < x)
-HonestResponse UnknownUser s x = Unit {0}
-HonestResponse SessionUnavailable s x = Unit {0}
-HonestResponse InvalidNumber s x = Unit {0}
-HonestResponse WrongVersion s x = Unit {0}
-HonestResponse WrongProtocol s x = Unit {0}
-HonestResponse AlreadyLoggedIn s x = Unit {0}
+HonestResponse status s x = Unit {0}
 
 abbrev pub Honest : List Message → ℕ → Value → Type 0
-Honest ms x (login_request v u c p s n) = Unit {0}
 Honest ms x (login_response t s n) = HonestResponse t s x
 Honest ms x (sequenced n m) = (0 < n) × (slice_get ms (n - 1) ≡ Some m)
-Honest ms x (unsequenced m) = Unit {0}
-Honest ms x synchronization_complete = Unit {0}
-Honest ms x (retransmission_request a e) = Unit {0}
-Honest ms x (logout_request r t) = Unit {0}
-Honest ms x (good_bye r t) = Unit {0}
-Honest ms x end_of_session = Unit {0}
-Honest ms x hub_heartbeat = Unit {0}
-Honest ms x seat_heartbeat = Unit {0}
-Honest ms x (test t) = Unit {0}
+Honest ms x v = Unit {0}
 
 -- a status that rejects is not the one that accepts
 abbrev pub Rejected : HubPhase → Type 0
-Rejected Shut = Unit {0}
-Rejected Waiting = Unit {0}
-Rejected (Answering q) = Unit {0}
 Rejected (Rejecting x) = x ≡ Accepted → ⊥
-Rejected (Serving q n d) = Unit {0}
-Rejected (Filling n l) = Unit {0}
+Rejected phase = Unit {0}
 
 -- what is on its way to the seat: its frame f and what waits, w; k and l are the sessions of the two logs
 pub record Flying (lists : ℕ → List Message) (h : HubPhase) (p : SeatPhase) (f : List ℕ) (k l : ℕ) (w : List ℕ) : Type 0 where

@@ -55,7 +55,7 @@ not_accepts Accepted ne = absurd (ne refl)
 not_accepts status ne = refl
 
 -- all is sent where the next number is not held
-past_all : (k : Meaning) (n : ℕ) → 0 < n → has k n ≡ false → count k < n
+pub past_all : (k : Meaning) (n : ℕ) → 0 < n → has k n ≡ false → count k < n
 past_all k n po h =
     ⊎_elim (λ l. l) (λ l. (cc (h, and_from (leb 1 n) (leb n (count k)) (le-leb 1 n po) (le-leb n (count k) l)))) (cases_lt (count k) n)
 

@@ -1,5 +1,5 @@
--- The book: what was published, by session. It is fed the hub's log after set-up, then each call with its message
--- and its answer, and nothing else.
+-- The book: what was published, by session. It begins with the log of a hub that was just set up. After that it hears
+-- of each call no more than its message and its answer.
 use Rattle.std.specs.Prelude.{ℕ, ◌+◌, Bool, cond, List, [], ◌∷◌, ◌++◌, is_ok, ◌==◌}
 use Rattle.message_log.specs.Meaning.{Meaning}
 use Rattle.rules.specs.declared.answers.Answer.{Answer}
@@ -32,7 +32,7 @@ is_granted (Answer.Received r) = is_ok r
 is_granted (Answer.Sent r) = is_ok r
 is_granted (Answer.Round r) = is_ok r
 
--- a granted publish adds its message, a granted roll starts the next session, and no other call changes the book
+-- a publish adds its message, and a roll begins the next session, where they are granted; no other call changes the book
 abbrev pub noted : Call → Answer → Book → Book
 noted (Publish m) a b = cond (is_granted a) (added b m) b
 noted Roll a b = cond (is_granted a) (turned b) b

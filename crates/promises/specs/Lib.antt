@@ -1,3 +1,4 @@
 pub mod Book
 pub mod Runs
 pub mod Promises
+pub mod Completes

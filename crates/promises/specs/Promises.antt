@@ -17,7 +17,8 @@ use Rattle.promises.specs.Runs.{IsPrefix, Note, World, Run, GrantedRounds, SetUp
 -- Set-up, of logs that keep their law and of steady lines, makes a pair of which the promises speak.
 abbrev pub SetUpBegins : Type 0
 SetUpBegins =
-    (g : Parts) (s : Pair) → Log.Sound g.hub_log → Log.Sound g.seat_log → Line.Steady g.up → Line.Steady g.down →
+    (g : Parts) (s : Pair) →
+    Log.Sound g.hub_log → Log.Sound g.seat_log → Line.Steady g.up → Line.Steady g.down →
     set_up g ≡ Ok s → SetUp s
 
 -- Never wrong: after every run the seat's log is a prefix of what was published in the session that it bears.
@@ -42,7 +43,8 @@ pub record Able (how : How) (s : Pair) : Type 0 where
   pub no_fetch : fetch_end how ≡ None
   pub accepted :
       status_for (connected how s).rows s.running.log.session (count s.running.log) (asked how s) ≡ Accepted
-  pub room : taken s.held.overhead (lacking s.held s.running.log) ≤ room (in_session s.held s.running.log.session)
+  pub room :
+      taken s.held.overhead (lacking s.held s.running.log) ≤ room (in_session s.held s.running.log.session)
   pub places : count s.running.log ≤ s.held.places
 
 -- h − q + 2, for h messages held by the hub and the number q that the login asks for

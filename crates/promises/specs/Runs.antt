@@ -81,7 +81,7 @@ pub data GrantedRounds (Rules : Pair → Call → Effect → Type 0) : ℕ → P
       Rules s Round d → d.answer ≡ Answer.Round (Ok report) → GrantedRounds Rules n d.after t →
       GrantedRounds Rules (suc n) s t
 
--- the seat's log is empty without a session, or a prefix of the hub's under the same session
+-- the seat's log has neither session nor message, or bears the hub's session and is a prefix of its log
 abbrev pub Follows : Meaning → Meaning → Type 0
 Follows seat hub =
     ((seat.session ≡ 0) × (seat.messages ≡ []))

@@ -263,7 +263,8 @@ hub_hearings =
     ∷ hub_hearing (Serving 1 3 false) (0x00 ∷ 0x00 ∷ []) (Err (BadPacket LengthZero))
     -- a retransmission is for those who asked for 0, and its start before its end
     ∷ hub_hearing (Serving 1 3 false) (encode (retransmission_request 1 2)) (Err (BadPacket OutOfPlace))
-    ∷ hub_hearing (Serving 0 3 false) (encode (retransmission_request 1 2)) (Ok (Acted L.RetransmissionRequest))
+    ∷ hub_hearing (Serving 0 3 false) (encode (retransmission_request 1 2))
+    (Ok (Acted L.RetransmissionRequest))
     ∷ hub_hearing (Serving 0 3 false) (encode (retransmission_request 0 0))
     (Err (BadPacket (WrongContent Field.Start)))
     ∷ hub_hearing (Serving 0 3 false) (encode (retransmission_request 2 1))

@@ -76,7 +76,7 @@ refills start end s =
 abbrev pub beat_while_filling : ℕ → ℕ → Pair → Pair
 beat_while_filling next last s = cond (nat_le next last) s (hub_leaves Shut s)
 
--- what the hub does depends on its phase and the packet together
+-- what the hub makes of a packet, by its phase
 abbrev pub hub_waiting : Value → Pair → Outcome Received
 hub_waiting (login_request v u c p session number) s =
     let asked : Asked =

@@ -87,7 +87,8 @@ gave step = []
 
 -- What a call answers, writes and leaves is a function of the pair and of these rooms.
 abbrev pub OnlyRoomsFree : Type 0
-OnlyRoomsFree = (s : Pair) (c : Call) (d e : Effect) (x : Step s c d) (y : Step s c e) → gave x ≡ gave y → d ≡ e
+OnlyRoomsFree =
+    (s : Pair) (c : Call) (d e : Effect) (x : Step s c d) (y : Step s c e) → gave x ≡ gave y → d ≡ e
 
 -- No buffer is shorter than it was: a packet that replaced the outgoing buffer, rather than stood at its front,
 -- would make it so.

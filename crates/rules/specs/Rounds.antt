@@ -44,7 +44,8 @@ going (Err refusal) = stop (fault_of refusal)
 
 -- An end receives until nothing waits or it is refused: so many packets were acted on, and what was wrong.
 pub data Drains (Receives : Pair → Outcome Received → Type 0) : Pair → ℕ → Option Fault → Pair → Type 0 where
-  ends : (s : Pair) (o : Outcome Received) (fault : Option Fault) → Receives s o → going o.answer ≡ stop fault →
+  ends : (s : Pair) (o : Outcome Received) (fault : Option Fault) →
+      Receives s o → going o.answer ≡ stop fault →
       Drains Receives s 0 fault o.after
   more : (s : Pair) (o : Outcome Received) (k n : ℕ) (fault : Option Fault) (t : Pair) →
       Receives s o → going o.answer ≡ continue k → Drains Receives o.after n fault t →

@@ -73,7 +73,8 @@ seat_accepted session highest s =
 -- rejected: the status is kept
 abbrev pub seat_rejected : Status → Pair → Outcome Received
 seat_rejected status s =
-    grants (Acted L.LoginResponse) (record s { seat = record s.seat { phase = Apart; status = Some status } })
+    grants (Acted L.LoginResponse)
+    (record s { seat = record s.seat { phase = Apart; status = Some status } })
 
 abbrev pub seat_answered : Status → ℕ → ℕ → Pair → Outcome Received
 seat_answered Accepted session highest s = seat_accepted session highest s
@@ -102,7 +103,8 @@ seat_message n m s =
 
 abbrev pub seat_complete : Option ℕ → Pair → Outcome Received
 seat_complete None s =
-    grants (Acted L.SynchronizationComplete) (record s { seat = record s.seat { phase = Live; in_step = true } })
+    grants (Acted L.SynchronizationComplete)
+    (record s { seat = record s.seat { phase = Live; in_step = true } })
 seat_complete (Some end) s = seat_bad OutOfPlace s
 
 abbrev pub seat_live : Value → Pair → Outcome Received

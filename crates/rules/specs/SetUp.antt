@@ -36,7 +36,7 @@ first_of [] ys = true
 first_of (x ∷ xs) [] = false
 first_of (x ∷ xs) (y ∷ ys) = bytes_eq x y && first_of xs ys
 
--- the seat's log is empty without a session, or a prefix of the hub's under the same session
+-- whether the seat's log has neither session nor message, or bears the hub's session and is a prefix of its log
 abbrev pub follows : Meaning → Meaning → Bool
 follows seat hub =
     cond (seat.session == 0)

@@ -10,9 +10,8 @@ ghost use Rattle.seat.specs.State.{with_state};
 ghost use Rattle.seat.specs.Acts.{closing, kept};
 
 use crate::state::SeatState;
-use framing::MESSAGE_OFFSET;
 use message_log::Log;
-use packet::Packet;
+use packet::{HEAD_LEN, Packet};
 use rules::{Received, SeatPhase};
 use wire::{Fault, Field, Letter, LogFault, PacketFault, Status};
 
@@ -48,7 +47,7 @@ impl SeatState {
                 number, message, log,
             ),
             (SeatPhase::Live, Packet::Unsequenced { message }) => Ok(Received::Message {
-                offset: MESSAGE_OFFSET,
+                offset: HEAD_LEN,
                 length: message.len(),
             }),
             (SeatPhase::Live, Packet::SynchronizationComplete) if self.fetch.is_none() => {

@@ -14,5 +14,5 @@ returns g c =
     let k : length x ≡ length o = search rules in
     let h = c.requires.room in
     let b : length (take (length x - 11) (drop 11 x)) ≡ length x - 11 = simp (length-take, length-drop) (omega arith) in
-    message_laid c.args.number c.args.bytes m o _ x _ c.read.new.buffer (length x - 11) c.requires.bytes (omega arith) c.head.ensures (c.lay.ensures ∙ overlaid_is o 0 c.head.result (omega arith)) (omega arith) refl
+    message_laid c.args.number c.args.bytes m o _ x _ c.read.new.buffer (length x - 11) c.requires.bytes (omega arith) c.before_message.ensures (c.lay.ensures ∙ overlaid_is o 0 c.before_message.result (omega arith)) (omega arith) refl
     (read_held l c.args.number (take (length x - 11) (drop 11 x)) c.read.new.buffer c.read.result c.requires.there (omega arith) c.read.ensures.value c.read.ensures.after)

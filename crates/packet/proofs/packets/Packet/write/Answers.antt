@@ -1,4 +1,4 @@
-use Rattle.std.proofs.Common.{◌+◌, ◌≤◌, length, refl, ap, ◌∙◌, arith}
+use Rattle.std.proofs.Common.{◌+◌, ◌≤◌, length, refl, ap, arith}
 use Rattle.std.proofs.lemmas.Result.{err_from_is_err_and}
 use Rattle.wire.specs.Letters.{letter_byte}
 use Rattle.packet.specs.Meanings.{value_of}
@@ -21,4 +21,4 @@ returns c =
     let w = c.in_ok-length.ensures in
     let h : length_number v + 2 ≤ length l = omega (arith, c.size.ensures, c.if-out-size.false) in
     granted v l _ _ w.answer w.valid.1 w.valid.0 h
-    (wrote v l _ _ _ _ w.valid.1 (c.into.ensures ∙ ap letter_byte c.letter.ensures) c.put_head.ensures c.put_body.ensures)
+    (wrote v l _ _ _ _ w.valid.1 (ap letter_byte c.letter.ensures) c.put_head.ensures c.put_body.ensures)
