@@ -42,13 +42,11 @@ impl Pair {
         seat_log: &S,
         buffers: &Buffers,
     ) -> Result<Pair, Unmade<Accounts>>
-        ensures {
-            (up down : LineView) →
+        ensures { (up down : LineView) →
             let held = S.Log.view seat_log.now in
             let log = G.Log.view hub_log.old in
             let given = parts_of log held up down accounts texts.entry buffers.now in
-            SetsUp given accounts result (G.Log.view hub_log.new)
-        }
+            SetsUp given accounts result (G.Log.view hub_log.new) }
     {
         if buffers.is_short() {
             return Err(Unmade {
@@ -105,9 +103,7 @@ fn follows<S: Log, G: Log>(seat_log: &S, hub_log: &G) -> bool
 
 // Whether the messages of a log are the first ones of another.
 fn begins<S: Log, G: Log>(beginning: &S, log: &G) -> bool
-    ensures {
-        result ≡ first_of (S.Log.view beginning.now).messages (G.Log.view log.now).messages
-    }
+    ensures { result ≡ first_of (S.Log.view beginning.now).messages (G.Log.view log.now).messages }
 {
     for place in 0..beginning.count() {
         if !share(beginning, log, place + 1) {
@@ -119,11 +115,9 @@ fn begins<S: Log, G: Log>(beginning: &S, log: &G) -> bool
 
 // Whether both logs hold a message n, and it is the same.
 fn share<S: Log, G: Log>(one: &S, other: &G, n: usize) -> bool
-    ensures {
-        let a = S.Log.view one.now in
+    ensures { let a = S.Log.view one.now in
         let b = G.Log.view other.now in
-        result ≡ has a n && (has b n && bytes_eq (nth a n) (nth b n))
-    }
+        result ≡ has a n && (has b n && bytes_eq (nth a n) (nth b n)) }
 {
     let mut message = [0; MESSAGE_LIMIT];
     let mut twin = [0; MESSAGE_LIMIT];

@@ -2,10 +2,11 @@
 ghost use Rattle.std.specs.Prelude.{ℕ, IfOk, IfErr, IfSome};
 ghost use Rattle.rehearsal.specs.Lines.{word, Hexadecimal, Numeral, NumeralUpTo, longest_buffer, most_ticks, LogWords, LineWords, TextWords, PartLine, EndWord, QuestionLine, CallLine, ActionLine, CommandLine};
 
-use crate::commands::{Command, Action, Question};
+use crate::commands::{Action, Command, Question};
 use crate::troubles::Malformed;
-use any_pair::{End, LineForm, LogForm, Part, Side, Texts};
+use any_pair::{End, LineForm, LogForm, Part, Side};
 use hex::FromHexError;
+use pair::AccountTexts;
 use relay::{Call, Way};
 use rules::How;
 use std::alloc::{AllocError, Global};
@@ -158,14 +159,14 @@ fn line_form(words: &[&str]) -> Result<LineForm, Malformed>
     }
 }
 
-fn texts_of<'a>(words: &[&'a str]) -> Result<Texts<'a>, Malformed>
+fn texts_of<'a>(words: &[&'a str]) -> Result<AccountTexts<'a>, Malformed>
     ensures is { IfOk result (λ texts. TextWords words.now texts) }
-    ensures no_other { IfErr result (λ _. (texts : Texts) → TextWords words.now texts → ⊥) }
+    ensures no_other { IfErr result (λ _. (texts : AccountTexts) → TextWords words.now texts → ⊥) }
 {
     let [user, computer, protocol] = words else {
         return Err(Malformed::NoCommand);
     };
-    Ok(Texts {
+    Ok(AccountTexts {
         user: user.as_bytes(),
         computer: computer.as_bytes(),
         protocol: protocol.as_bytes(),
