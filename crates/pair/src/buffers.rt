@@ -25,7 +25,11 @@ impl Model for Buffers {
 
     ghost Value = { State.Buffers };
 
-    ghost view = { λ b. record { hub_frame = b.hub_frame.items; seat_frame = b.seat_frame.items; out = b.out.items } };
+    ghost view = { λ b. record {
+      hub_frame = b.hub_frame.items;
+      seat_frame = b.seat_frame.items;
+      out = b.out.items;
+    } };
 }
 
 impl Buffers {

@@ -27,10 +27,10 @@ impl Pair {
     ) -> Result<(), Refusal>
         ensures { (hub_log : Meaning) →
             let held = S.Log.view seat_log.now in
-            let up_before = U.Line.view up.old in
-            let up_after = U.Line.view up.new in
-            let before = pair_of self.old hub_log held up_before (D.Line.view down.old) buffers.old in
-            let after = pair_of self.new hub_log held up_after (D.Line.view down.new) buffers.new in
+            let before = pair_of self.old hub_log held
+            (U.Line.view up.old) (D.Line.view down.old) buffers.old in
+            let after = pair_of self.new hub_log held
+            (U.Line.view up.new) (D.Line.view down.new) buffers.new in
             Does (Connect how) before result after }
     {
         self.seat
@@ -42,10 +42,10 @@ impl Pair {
     /// The connection is cut: both ends are without one, and the lines are cleared.
     pub fn cut<U: Line, D: Line>(&mut self, up: &mut U, down: &mut D)
         ensures { (hub_log seat_log : Meaning) (lent : State.Buffers) →
-            let up_before = U.Line.view up.old in
-            let up_after = U.Line.view up.new in
-            let before = pair_of self.old hub_log seat_log up_before (D.Line.view down.old) lent in
-            let after = pair_of self.new hub_log seat_log up_after (D.Line.view down.new) lent in
+            let before = pair_of self.old hub_log seat_log
+            (U.Line.view up.old) (D.Line.view down.old) lent in
+            let after = pair_of self.new hub_log seat_log
+            (U.Line.view up.new) (D.Line.view down.new) lent in
             Does Cut before (Ok tt) after }
     {
         self.hub.cut(&mut self.accounts);

@@ -24,10 +24,10 @@ impl Pair {
     ) -> Result<Received, Refusal>
         ensures { (seat_log : Meaning) →
             let log = G.Log.view hub_log.now in
-            let up_before = U.Line.view up.old in
-            let up_after = U.Line.view up.new in
-            let before = pair_of self.old log seat_log up_before (D.Line.view down.old) buffers.old in
-            let after = pair_of self.new log seat_log up_after (D.Line.view down.new) buffers.new in
+            let before = pair_of self.old log seat_log
+            (U.Line.view up.old) (D.Line.view down.old) buffers.old in
+            let after = pair_of self.new log seat_log
+            (U.Line.view up.new) (D.Line.view down.new) buffers.new in
             ReceivesAtHub before result after }
     {
         self.hub.receive(

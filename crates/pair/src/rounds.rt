@@ -80,10 +80,10 @@ impl Pair {
         ensures lengths { NoShorter buffers.old buffers.new }
         ensures drained { (seat_log : Meaning) →
             let log = G.Log.view hub_log.now in
-            let up_before = U.Line.view up.old in
-            let up_after = U.Line.view up.new in
-            let before = pair_of self.old log seat_log up_before (D.Line.view down.old) buffers.old in
-            let after = pair_of self.new log seat_log up_after (D.Line.view down.new) buffers.new in
+            let before = pair_of self.old log seat_log
+            (U.Line.view up.old) (D.Line.view down.old) buffers.old in
+            let after = pair_of self.new log seat_log
+            (U.Line.view up.new) (D.Line.view down.new) buffers.new in
             Drains HubReceives before result.packets result.fault after }
     {
         // Each packet takes a byte at least, so that there are no more of them than this.

@@ -87,7 +87,7 @@ fn start<G: Log>(log: &mut G)
     }
 }
 
-// Whether the seat's log is empty without a session, or a beginning of the hub's, as that is once it is started.
+// Whether the seat's log is empty without a session, or a prefix of the hub's, as that is once it is started.
 fn follows<S: Log, G: Log>(seat_log: &S, hub_log: &G) -> bool
     ensures { result ≡ follows (S.Log.view seat_log.now) (started (G.Log.view hub_log.now)) }
 {
@@ -98,15 +98,15 @@ fn follows<S: Log, G: Log>(seat_log: &S, hub_log: &G) -> bool
         0 => FIRST_SESSION,
         session => session,
     };
-    seat_log.session() == session && begins(seat_log, hub_log)
+    seat_log.session() == session && is_prefix(seat_log, hub_log)
 }
 
-// Whether the messages of a log are the first ones of another.
-fn begins<S: Log, G: Log>(beginning: &S, log: &G) -> bool
-    ensures { result ≡ first_of (S.Log.view beginning.now).messages (G.Log.view log.now).messages }
+// Whether the messages of a log are a prefix of those of another.
+fn is_prefix<S: Log, G: Log>(prefix: &S, log: &G) -> bool
+    ensures { result ≡ first_of (S.Log.view prefix.now).messages (G.Log.view log.now).messages }
 {
-    for place in 0..beginning.count() {
-        if !share(beginning, log, place + 1) {
+    for index in 0..prefix.count() {
+        if !share(prefix, log, index + 1) {
             return false;
         }
     }

@@ -1,6 +1,9 @@
 //! From a line to the command that it asks for.
 ghost use Rattle.std.specs.Prelude.{ℕ, IfOk, IfErr, IfSome};
-ghost use Rattle.rehearsal.specs.Lines.{word, Hexadecimal, Numeral, NumeralUpTo, longest_buffer, most_ticks, LogWords, LineWords, TextWords, PartLine, EndWord, QuestionLine, CallLine, ActionLine, CommandLine};
+ghost use Rattle.rehearsal.specs.Lines.{word, Hexadecimal, Numeral, NumeralUpTo};
+ghost use Rattle.rehearsal.specs.Lines.{longest_buffer, most_ticks, LogWords, LineWords, TextWords};
+ghost use Rattle.rehearsal.specs.Lines.{PartLine, EndWord, QuestionLine, CallLine, ActionLine};
+ghost use Rattle.rehearsal.specs.Lines.{CommandLine};
 
 use crate::commands::{Action, Command, Question};
 use crate::troubles::Malformed;
@@ -27,7 +30,8 @@ pub struct Words<'a> {
 impl<'a> Words<'a> {
     /// The words of a line.
     pub fn of(heap: Global, line: &'a str) -> Result<Words<'a>, AllocError>
-        ensures { IfOk result (λ w. IfSome w.bytes (λ v. Hexadecimal (word w.words.items 1) v.items)) }
+        ensures { IfOk result
+            (λ w. IfSome w.bytes (λ v. Hexadecimal (word w.words.items 1) v.items)) }
     {
         let words: Vec<&'a str> = line.split_whitespace().collect(heap)?;
         let bytes = match words.as_slice() {
@@ -187,7 +191,8 @@ fn length_of(word: &str) -> Result<usize, Malformed>
 
 fn question_of<'a>(words: &[&'a str]) -> Result<Question<'a>, Malformed>
     ensures is { IfOk result (λ question. QuestionLine words.now question) }
-    ensures no_other { IfErr result (λ _. (question : Question) → QuestionLine words.now question → ⊥) }
+    ensures no_other { IfErr result
+        (λ _. (question : Question) → QuestionLine words.now question → ⊥) }
 {
     match words {
         ["show"] => Ok(Question::Pair),

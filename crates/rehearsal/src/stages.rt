@@ -1,5 +1,6 @@
 //! How far a rehearsal is, and what its commands do.
-ghost use Rattle.std.specs.Prelude.{◌≡◌, ◌<◌, ◌≤◌, ◌⊎◌, IfOk, IsSomeAnd, MatchResult, None, Some, length, take};
+ghost use Rattle.std.specs.Prelude.{◌≡◌, ◌<◌, ◌≤◌, ◌⊎◌, IfOk, IsSomeAnd, MatchResult};
+ghost use Rattle.std.specs.Prelude.{None, Some, length, take};
 ghost use Rattle.line.specs.Lines.{LineView};
 ghost use Rattle.logs.specs.Format.{saved};
 ghost use Rattle.rehearsal.specs.declared.troubles.Malformed.TheVariants as M;

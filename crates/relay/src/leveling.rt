@@ -36,7 +36,8 @@ impl Way {
 
     // How many rounds it takes: two more than the hub holds, less the number that the login asks for.
     pub(crate) fn rounds<G: Log, S: Log>(self, hub_log: &G, seat_log: &S) -> usize
-        ensures { result ≡ count (G.Log.view hub_log.now) + 2 - asked_number (how_of self) (S.Log.view seat_log.now) }
+        ensures { let asked = asked_number (how_of self) (S.Log.view seat_log.now) in
+            result ≡ count (G.Log.view hub_log.now) + 2 - asked }
     {
         let asked = match self {
             Way::Join => seat_log.count() + 1,

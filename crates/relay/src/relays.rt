@@ -120,7 +120,8 @@ impl<G: Log, S: Log, U: SteadyLine, D: SteadyLine> Relay<G, S, U, D> {
 
     /// The pair with its logs, lines and buffers, to be read.
     pub fn owned_pair(&self) -> &OwnedPair<G, S, U, D>
-        ensures { meaning_of G.Log.view S.Log.view U.Line.view D.Line.view result.now ≡ self.now.pair }
+        ensures { let pair = meaning_of G.Log.view S.Log.view U.Line.view D.Line.view result.now in
+            pair ≡ self.now.pair }
     {
         &self.owned
     }
