@@ -1,4 +1,4 @@
 pub mod Made
 pub mod Makings
-pub mod Played
+pub mod AnyPairs
 pub mod Strangers

@@ -8,40 +8,32 @@ use Rattle.rules.specs.SetUp as Given
 use Rattle.any_pair.specs.Made.{LogMade, LineMade, LogDenied, LineDenied}
 use Rattle.wire.specs.declared.refusals.Refusal.{Refusal}
 use Rattle.wire.specs.declared.refusals.Refusal.TheVariants.{OutOfMemory}
-use Rattle.any_pair.specs.declared.forms.Texts.{Texts}
+use Rattle.pair.specs.declared.setting.AccountTexts.{AccountTexts}
 use Rattle.any_pair.specs.declared.forms.Part.{Part}
 use Rattle.any_pair.specs.declared.forms.Part.TheVariants as P
 use Rattle.any_pair.specs.declared.forms.End.TheVariants.{Hub}
 use Rattle.any_pair.specs.declared.forms.End.TheVariants as E
 use Rattle.any_pair.specs.declared.forms.Side.TheVariants.{Up, Down}
-use Rattle.any_pair.specs.declared.builders.Credentials.{Credentials}
-use Rattle.any_pair.specs.declared.builders.Buffers.{Buffers}
+use Rattle.pair.specs.Lent.{blank}
+use Rattle.relay.specs.Copies.{Copies}
 use Rattle.any_pair.specs.declared.builders.Builder.{Builder}
 use Rattle.account.specs.declared.rows.Row.{Row}
 
--- the texts as they were given
-abbrev pub Copied : Texts → Credentials → Type 0
-Copied texts c = (c.user.items ≡ texts.user.now) × ((c.computer.items ≡ texts.computer.now) × (c.protocol.items ≡ texts.protocol.now))
-
--- buffers of these lengths, of zeros
-abbrev pub Blank : ℕ → ℕ → ℕ → Buffers → Type 0
-Blank hub seat out b = (b.hub_frame.items ≡ replicate hub 0) × ((b.seat_frame.items ≡ replicate seat 0) × (b.out.items ≡ replicate out 0))
-
 -- the account joins the rows, and is not refused
-abbrev pub Joins : Texts → List Row → List Row → Type 0
+abbrev pub Joins : AccountTexts → List Row → List Row → Type 0
 Joins texts rows after =
     let row = joining rows texts.user.now texts.computer.now texts.protocol.now in
     (is_ok row ≡ true) × (after ≡ joined rows row)
 
 -- The parts p with one of those of q, which is as it was asked for. What a line means is given.
 abbrev pub Makes : (AnyLine → LineView) → Part → Builder → Builder → Type 0
-Makes means (P.Log E.Hub form) p q = (q ≡ record { hub_log = q.hub_log; seat_log = p.seat_log; up = p.up; down = p.down; accounts = p.accounts; seat = p.seat; buffers = p.buffers }) × IsSomeAnd q.hub_log (λ l. LogMade form (inside l))
-Makes means (P.Log E.Seat form) p q = (q ≡ record { hub_log = p.hub_log; seat_log = q.seat_log; up = p.up; down = p.down; accounts = p.accounts; seat = p.seat; buffers = p.buffers }) × IsSomeAnd q.seat_log (λ l. LogMade form (inside l))
-Makes means (P.Line Up form) p q = (q ≡ record { hub_log = p.hub_log; seat_log = p.seat_log; up = q.up; down = p.down; accounts = p.accounts; seat = p.seat; buffers = p.buffers }) × IsSomeAnd q.up (λ t. LineMade form (means t.line) × (t.tally ≡ replicate 12 0))
-Makes means (P.Line Down form) p q = (q ≡ record { hub_log = p.hub_log; seat_log = p.seat_log; up = p.up; down = q.down; accounts = p.accounts; seat = p.seat; buffers = p.buffers }) × IsSomeAnd q.down (λ t. LineMade form (means t.line) × (t.tally ≡ replicate 12 0))
-Makes means (P.Account texts) p q = (q ≡ record { hub_log = p.hub_log; seat_log = p.seat_log; up = p.up; down = p.down; accounts = q.accounts; seat = p.seat; buffers = p.buffers }) × Joins texts p.accounts.rows q.accounts.rows
-Makes means (P.Seat texts) p q = (q ≡ record { hub_log = p.hub_log; seat_log = p.seat_log; up = p.up; down = p.down; accounts = p.accounts; seat = q.seat; buffers = p.buffers }) × IsSomeAnd q.seat (λ c. Copied texts c)
-Makes means (P.Buffers hub seat out) p q = (q ≡ record { hub_log = p.hub_log; seat_log = p.seat_log; up = p.up; down = p.down; accounts = p.accounts; seat = p.seat; buffers = q.buffers }) × Blank hub seat out q.buffers
+Makes means (P.Log E.Hub form) p q = (q ≡ record p { hub_log = q.hub_log }) × IsSomeAnd q.hub_log (λ l. LogMade form (inside l))
+Makes means (P.Log E.Seat form) p q = (q ≡ record p { seat_log = q.seat_log }) × IsSomeAnd q.seat_log (λ l. LogMade form (inside l))
+Makes means (P.Line Up form) p q = (q ≡ record p { up = q.up }) × IsSomeAnd q.up (λ t. LineMade form (means t.line) × (t.tally ≡ replicate 12 0))
+Makes means (P.Line Down form) p q = (q ≡ record p { down = q.down }) × IsSomeAnd q.down (λ t. LineMade form (means t.line) × (t.tally ≡ replicate 12 0))
+Makes means (P.Account texts) p q = (q ≡ record p { accounts = q.accounts }) × Joins texts p.accounts.rows q.accounts.rows
+Makes means (P.Seat texts) p q = (q ≡ record p { seat = q.seat }) × IsSomeAnd q.seat (λ c. Copies texts c)
+Makes means (P.Buffers hub seat out) p q = (q ≡ record p { buffers = q.buffers }) × (q.buffers ≡ blank hub seat out)
 
 -- why a part is not made
 abbrev pub PartDenied : Part → Builder → Refusal → Type 0
@@ -53,7 +45,7 @@ PartDenied (P.Buffers hub seat out) p e = e ≡ OutOfMemory
 
 -- nothing was made: the same parts, with the same rows in the table
 abbrev pub Left : Builder → Builder → Type 0
-Left p q = (q.accounts.rows ≡ p.accounts.rows) × (q ≡ record { hub_log = p.hub_log; seat_log = p.seat_log; up = p.up; down = p.down; accounts = q.accounts; seat = p.seat; buffers = p.buffers })
+Left p q = (q.accounts.rows ≡ p.accounts.rows) × (q ≡ record p { accounts = q.accounts })
 
 -- no part is made but the table, which has no row
 abbrev pub Bare : Builder → Type 0
@@ -62,8 +54,8 @@ Bare p = (is_some p.hub_log ≡ false) × ((is_some p.seat_log ≡ false) × ((i
 -- all parts are made, and mean this
 abbrev pub Joined : (AnyLine → LineView) → Builder → Given.Parts → Type 0
 Joined means p g =
-    IsSomeAnd p.hub_log (λ l. g.hub_log ≡ inside l) × (IsSomeAnd p.seat_log (λ l. g.seat_log ≡ inside l) × (IsSomeAnd p.up (λ t. g.up ≡ means t.line) × (IsSomeAnd p.down (λ t. g.down ≡ means t.line) × (IsSomeAnd p.seat (λ c. (g.user ≡ c.user.items) × ((g.computer ≡ c.computer.items) × (g.protocol ≡ c.protocol.items))) × ((g.rows ≡ p.accounts.rows) × (g.buffers ≡ record { hub_frame = p.buffers.hub_frame.items; seat_frame = p.buffers.seat_frame.items; out = p.buffers.out.items }))))))
+    IsSomeAnd p.hub_log (λ l. g.hub_log ≡ inside l) × (IsSomeAnd p.seat_log (λ l. g.seat_log ≡ inside l) × (IsSomeAnd p.up (λ t. g.up ≡ means t.line) × (IsSomeAnd p.down (λ t. g.down ≡ means t.line) × (IsSomeAnd p.seat (λ c. (g.user ≡ c.user.items) × ((g.computer ≡ c.computer.items) × (g.protocol ≡ c.protocol.items))) × ((g.rows ≡ p.accounts.rows) × (g.buffers ≡ p.buffers))))))
 
 -- whether all parts are made
-abbrev pub is_whole : Builder → Bool
-is_whole p = is_some p.hub_log && (is_some p.seat_log && (is_some p.up && (is_some p.down && is_some p.seat)))
+abbrev pub is_complete : Builder → Bool
+is_complete p = is_some p.hub_log && (is_some p.seat_log && (is_some p.up && (is_some p.down && is_some p.seat)))

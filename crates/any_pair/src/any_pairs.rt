@@ -1,75 +1,69 @@
-//! A pair with its parts, and what is done to it.
-ghost use Rattle.std.specs.Prelude.{◌≡◌};
+//! A pair of any kinds, and what is done to it.
+ghost use Rattle.std.specs.Prelude.{◌≡◌, Ok, Err, MatchResult};
+ghost use Rattle.rules.specs.SetUp.{set_up};
 ghost use Rattle.relay.specs.Calls.{call_of};
-ghost use Rattle.relay.specs.Histories.{Performed};
-ghost use Rattle.relay.specs.Levels.{how_of, Brings};
+ghost use Rattle.relay.specs.Histories.{Performs};
+ghost use Rattle.relay.specs.Levels.{how_of, BringsLevel};
 ghost use Rattle.any_pair.specs.Strangers.{Injects};
 
-use crate::builders::Buffers;
+use crate::builders::AnyParts;
 use crate::forms::Side;
 use line::Line;
 use lines::{AnyLine, CountedLine};
 use logs::AnyLog;
 use message_log::Log;
-use pair::Pair;
-use relay::{Answer, Call, Way, bring_level, perform};
+use relay::{Answer, Call, OwnedPair, Way};
 use std::marker::Model;
-use wire::Refusal;
+use wire::{Refusal, Status, Unmade};
 
-/// A pair, and all that its calls are lent.
+/// A pair of any kinds, with all that its calls are lent.
+// It is no `Relay`, since a stranger's bytes on a line are no call: each call says what it promises of every history
+// that led to the pair, and after an injection there is none.
 #[derive(Drop)]
 pub struct AnyPair {
-    pub pair: Pair,
-    pub hub_log: AnyLog,
-    pub seat_log: AnyLog,
-    pub up: CountedLine<AnyLine>,
-    pub down: CountedLine<AnyLine>,
-    pub buffers: Buffers,
+    pub owned: OwnedPair<AnyLog, AnyLog, CountedLine<AnyLine>, CountedLine<AnyLine>>,
 }
 
-/// A play means what its pair means with all that it is lent, and how many packets were put on each line.
+/// It means what its pair means with all that it is lent, and how many packets were put on each line.
 impl Model for AnyPair {
-    ghost use Rattle.pair.specs.Meanings.{pair_of};
-    ghost use Rattle.any_pair.specs.Played as Given;
+    ghost use Rattle.relay.specs.OwnedPairs.{meaning_of};
+    ghost use Rattle.any_pair.specs.AnyPairs as Given;
 
-    ghost Value = { Given.Played };
+    ghost Value = { Given.PairWithCounts };
 
-    ghost view = { λ p. record { pair = pair_of p.pair (⟦<AnyLog as Log>⟧.view p.hub_log) (⟦<AnyLog as Log>⟧.view p.seat_log) (⟦<CountedLine<AnyLine> as Line>⟧.view p.up) (⟦<CountedLine<AnyLine> as Line>⟧.view p.down) p.buffers.hub_frame.items p.buffers.seat_frame.items p.buffers.out.items; up = p.up.tally; down = p.down.tally } };
+    ghost view = { λ p. record {
+      pair = meaning_of ⟦<AnyLog as Log>⟧.view ⟦<AnyLog as Log>⟧.view
+          ⟦<CountedLine<AnyLine> as Line>⟧.view ⟦<CountedLine<AnyLine> as Line>⟧.view p.owned;
+      up = p.owned.up.tally;
+      down = p.owned.down.tally;
+    } };
 }
 
 impl AnyPair {
-    /// Performs a call: a step of the rules, after which the promises hold as before.
-    pub fn call(&mut self, call: Call<'_>) -> Answer
-        ensures { Performed self.old.pair (call_of call.entry) result self.new.pair }
+    /// Sets a pair up of all its parts. Refuses as `Pair::set_up` does, and hands the parts back unchanged.
+    pub fn set_up(parts: AnyParts) -> Result<AnyPair, Unmade<AnyParts>>
+        ensures { MatchResult result
+            (λ made. set_up parts ≡ Ok made.pair)
+            (λ unmade. (set_up parts ≡ Err unmade.refusal) × (unmade.given ≡ parts)) }
     {
-        perform(
-            &mut self.pair,
-            call,
-            &mut self.hub_log,
-            &mut self.seat_log,
-            &mut self.up,
-            &mut self.down,
-            &mut self.buffers.hub_frame,
-            &mut self.buffers.seat_frame,
-            &mut self.buffers.out,
-        )
+        Ok(AnyPair {
+            owned: OwnedPair::set_up(parts)?,
+        })
     }
 
-    /// Brings the seat level with the hub: a connect, and as many rounds as that takes.
-    pub fn level(&mut self, way: Way) -> Result<(), Refusal>
-        ensures { Brings (how_of way) self.old.pair result self.new.pair }
+    /// Performs a call: a step of the rules, after which the promises hold as before.
+    pub fn perform(&mut self, call: Call<'_>) -> Answer
+        ensures { Performs self.old.pair (call_of call.entry) result self.new.pair }
     {
-        bring_level(
-            &mut self.pair,
-            way,
-            &self.hub_log,
-            &mut self.seat_log,
-            &mut self.up,
-            &mut self.down,
-            &mut self.buffers.hub_frame,
-            &mut self.buffers.seat_frame,
-            &mut self.buffers.out,
-        )
+        self.owned.perform(call)
+    }
+
+    /// Brings the seat level with the hub: a connect, and as many rounds as that takes. It answers what the hub
+    /// answered the login, if it did.
+    pub fn bring_level(&mut self, way: Way) -> Result<Option<Status>, Refusal>
+        ensures { BringsLevel (how_of way) self.old.pair result self.new.pair }
+    {
+        self.owned.bring_level(way)
     }
 
     /// Puts a stranger's bytes on a line. Nothing else changes; they are counted as nobody's packets.
@@ -79,8 +73,8 @@ impl AnyPair {
         ensures down { self.new.down ≡ self.old.down }
     {
         match side {
-            Side::Up => self.up.put_past(bytes),
-            Side::Down => self.down.put_past(bytes),
+            Side::Up => self.owned.up.put_past(bytes),
+            Side::Down => self.owned.down.put_past(bytes),
         }
     }
 }

@@ -1,4 +1,5 @@
 //! Which parts a pair can have.
+use pair::AccountTexts;
 
 /// One of the two ends.
 #[derive(Clone, Copy)]
@@ -38,23 +39,15 @@ pub enum LineForm {
     PacedStraight { pace: usize, size: usize },
 }
 
-/// The three texts of an account.
-#[derive(Clone, Copy)]
-pub struct Texts<'a> {
-    pub user: &'a [u8],
-    pub computer: &'a [u8],
-    pub protocol: &'a [u8],
-}
-
 /// A part of a pair that is to be made.
 #[derive(Clone, Copy)]
 pub enum Part<'a> {
     Log(End, LogForm<'a>),
     Line(Side, LineForm),
     /// A row more of the hub's table.
-    Account(Texts<'a>),
+    Account(AccountTexts<'a>),
     /// What the seat logs in with; it is judged at set-up.
-    Seat(Texts<'a>),
+    Seat(AccountTexts<'a>),
     /// Buffers of these lengths: of the two frames, and the outgoing one.
     Buffers { hub: usize, seat: usize, out: usize },
 }

@@ -4,16 +4,14 @@
 //! each a step of the rules, with the promises kept.
 //!
 //! Left out: commands and printing. In the order a reader meets them: `Part` and what it is made of, `Builder`,
-//! `Whole`, `AnyPair`.
+//! `AnyParts`, `AnyPair`.
 #![tactic(auto)]
 
 pub mod any_pairs;
 pub mod builders;
 pub mod forms;
 mod making;
-pub mod wholes;
 
 pub use any_pairs::AnyPair;
-pub use builders::{Buffers, Credentials, Builder};
-pub use forms::{End, LineForm, LogForm, Part, Side, Texts};
-pub use wholes::Whole;
+pub use builders::{AnyParts, Builder};
+pub use forms::{End, LineForm, LogForm, Part, Side};

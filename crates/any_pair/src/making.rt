@@ -1,5 +1,6 @@
 //! How logs and lines are made of memory.
-ghost use Rattle.std.specs.Prelude.{◌≡◌, ℕ, ◌+◌, true, ◌⊎◌, min, [], length, replicate, IfOk, MatchResult};
+ghost use Rattle.std.specs.Prelude.{◌≡◌, ℕ, ◌+◌, true, ◌⊎◌, min, [], length, replicate};
+ghost use Rattle.std.specs.Prelude.{IfOk, MatchResult};
 ghost use Rattle.wire.specs.declared.refusals.Refusal.TheVariants as R;
 ghost use Rattle.wire.specs.Limits.{packet_limit};
 ghost use Rattle.line.specs.Lines.{fresh};
@@ -28,7 +29,9 @@ fn memory(heap: Global, bytes: usize, most: usize) -> Result<Vec<u8>, AllocError
 
 /// The log of this form.
 pub(crate) fn log_of(heap: Global, form: LogForm<'_>) -> Result<AnyLog, Refusal>
-    ensures { MatchResult result (λ l. LogMade form.entry (⟦<AnyLog as Log>⟧.view l)) (λ e. LogDenied form.entry e) }
+    ensures { MatchResult result
+        (λ l. LogMade form.entry (⟦<AnyLog as Log>⟧.view l))
+        (λ e. LogDenied form.entry e) }
 {
     match form {
         LogForm::Journal { bytes } => Ok(AnyLog::Journal(journal_of(heap, bytes)?)),
@@ -38,13 +41,17 @@ pub(crate) fn log_of(heap: Global, form: LogForm<'_>) -> Result<AnyLog, Refusal>
 }
 
 fn journal_of(heap: Global, bytes: usize) -> Result<Journal, Refusal>
-    ensures { MatchResult result (λ j. ⟦<Journal as Log>⟧.view j ≡ journal bytes 0 []) (λ e. Denied (makes bytes ≡ true) e) }
+    ensures { MatchResult result
+        (λ j. ⟦<Journal as Log>⟧.view j ≡ journal bytes 0 [])
+        (λ e. Denied (makes bytes ≡ true) e) }
 {
     Ok(Journal::new(heap, memory(heap, bytes, JOURNAL_LIMIT)?)?)
 }
 
 fn indexed_of(heap: Global, pool: usize, table: usize) -> Result<Indexed, Refusal>
-    ensures { MatchResult result (λ l. ⟦<Indexed as Log>⟧.view l ≡ indexed pool table) (λ e. Denied (pools pool table ≡ true) e) }
+    ensures { MatchResult result
+        (λ l. ⟦<Indexed as Log>⟧.view l ≡ indexed pool table)
+        (λ e. Denied (pools pool table ≡ true) e) }
 {
     let ends = vec![in heap; 0u32; table.min(TABLE_LIMIT + 1)]?;
     Ok(Indexed::new(memory(heap, pool, POOL_LIMIT)?, ends)?)
@@ -52,7 +59,11 @@ fn indexed_of(heap: Global, pool: usize, table: usize) -> Result<Indexed, Refusa
 
 // A journal of so many bytes that holds a saved one. A saved one that is longer is refused by its length.
 fn opened(heap: Global, bytes: usize, saved: &[u8]) -> Result<Journal, Refusal>
-    ensures { MatchResult result (λ j. let l = ⟦<Journal as Log>⟧.view j in (l ≡ journal bytes l.session l.messages) × (saved.now ≡ form_of l.session l.messages)) (λ e. Denied (opens bytes (length saved.now) ≡ true) e ⊎ ((place : ℕ) × (e ≡ R.BrokenLog place) × Broken saved.now place)) }
+    ensures { MatchResult result
+        (λ j. let l = ⟦<Journal as Log>⟧.view j in
+        (l ≡ journal bytes l.session l.messages) × (saved.now ≡ form_of l.session l.messages))
+        (λ e. Denied (opens bytes (length saved.now) ≡ true) e
+        ⊎ ((place : ℕ) × (e ≡ R.BrokenLog place) × Broken saved.now place)) }
 {
     let mut memory = memory(heap, bytes, JOURNAL_LIMIT)?;
     wire::lay(memory.as_mut_slice(), 0, saved);
@@ -61,7 +72,9 @@ fn opened(heap: Global, bytes: usize, saved: &[u8]) -> Result<Journal, Refusal>
 
 /// The line of this form.
 pub(crate) fn line_of(heap: Global, form: LineForm) -> Result<AnyLine, Refusal>
-    ensures { MatchResult result (λ l. LineMade form (⟦<AnyLine as Line>⟧.view l)) (λ e. LineDenied form e) }
+    ensures { MatchResult result
+        (λ l. LineMade form (⟦<AnyLine as Line>⟧.view l))
+        (λ e. LineDenied form e) }
 {
     match form {
         LineForm::Ring { size } => Ok(AnyLine::Ring(ring_of(heap, size)?)),
@@ -78,13 +91,17 @@ pub(crate) fn line_of(heap: Global, form: LineForm) -> Result<AnyLine, Refusal>
 }
 
 fn ring_of(heap: Global, size: usize) -> Result<Ring, Refusal>
-    ensures { MatchResult result (λ l. ⟦<Ring as Line>⟧.view l ≡ fresh size packet_limit) (λ e. Denied (LineSize size) e) }
+    ensures { MatchResult result
+        (λ l. ⟦<Ring as Line>⟧.view l ≡ fresh size packet_limit)
+        (λ e. Denied (LineSize size) e) }
 {
     Ok(Ring::new(memory(heap, size, LARGEST_SIZE)?)?)
 }
 
 fn straight_of(heap: Global, size: usize) -> Result<Straight, Refusal>
-    ensures { MatchResult result (λ l. ⟦<Straight as Line>⟧.view l ≡ fresh size 1) (λ e. Denied (LineSize size) e) }
+    ensures { MatchResult result
+        (λ l. ⟦<Straight as Line>⟧.view l ≡ fresh size 1)
+        (λ e. Denied (LineSize size) e) }
 {
     Ok(Straight::new(memory(heap, size, LARGEST_SIZE)?)?)
 }

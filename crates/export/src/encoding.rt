@@ -23,7 +23,8 @@ pub fn packets(heap: Global, length: usize, times: u64) -> Result<u64, Refusal> 
 // One packet, written at the front of `out` and read from there: the sum with its length, its number and the front of
 // its message in it.
 fn written_and_read(sum: u64, number: u64, message: &[u8], out: &mut [u8]) -> Result<u64, Refusal>
-    ensures { IfOk result (λ s. s ≡ mixed (mixed (mixed sum (length message.now + 11)) number) (word_of message.now)) }
+    ensures { let with_length = mixed sum (length message.now + 11) in
+        IfOk result (λ s. s ≡ mixed (mixed with_length number) (word_of message.now)) }
 {
     let length = Packet::Sequenced { number, message }.write(out)?;
     let sum = mix(sum, length as u64);

@@ -7,7 +7,9 @@ use wire::{Refusal, lay};
 
 /// Hands out a sum.
 pub fn hand_sum(made: Result<u64, Refusal>, sum: &mut u64) -> u8
-    ensures { MatchResult made (λ s. (result ≡ 0) × (sum.new ≡ s)) (λ r. (result ≡ number r) × (sum.new ≡ sum.old)) }
+    ensures { MatchResult made
+        (λ s. (result ≡ 0) × (sum.new ≡ s))
+        (λ r. (result ≡ number r) × (sum.new ≡ sum.old)) }
 {
     match made {
         Ok(made) => {

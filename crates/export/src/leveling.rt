@@ -1,18 +1,20 @@
 //! A seat that is brought level, and messages one at a time.
 use crate::messages::stamp;
-use crate::stages::{Stage, ring};
+use crate::relays::{publish, relay, ring, round};
 use crate::sums::{SEED, mix, mix_bytes};
 use line::SteadyLine;
 use lines::Paced;
+use logs::Journal;
 use message_log::{Log, SIZE_LIMIT};
+use relay::{Relay, Way};
 use std::alloc::Global;
 use wire::Refusal;
 
 /// Brings a seat level, from the first message on, with a hub whose journal of so many bytes is full of messages of
 /// this length, so many times. The lines are rings.
 pub fn levels(heap: Global, size: usize, length: usize, times: u64) -> Result<u64, Refusal> {
-    let stage = Stage::new(heap, size, ring(heap)?, ring(heap)?)?;
-    leveled(heap, stage, length, times)
+    let relay = relay(heap, size, ring(heap)?, ring(heap)?)?;
+    leveled(heap, relay, length, times)
 }
 
 /// The same over lines that hand over so many bytes at once, at most.
@@ -25,36 +27,41 @@ pub fn levels_paced(
 ) -> Result<u64, Refusal> {
     let up = Paced::new(ring(heap)?, pace)?;
     let down = Paced::new(ring(heap)?, pace)?;
-    let stage = Stage::new(heap, size, up, down)?;
-    leveled(heap, stage, length, times)
+    let relay = relay(heap, size, up, down)?;
+    leveled(heap, relay, length, times)
 }
 
 // A hub that publishes until its log is full, and a seat that is brought level so many times.
 fn leveled<L: SteadyLine + Drop>(
     heap: Global,
-    stage: Stage<L>,
+    relay: Relay<Journal, Journal, L, L>,
     length: usize,
     times: u64,
 ) -> Result<u64, Refusal> {
-    let mut stage = stage;
+    let mut relay = relay;
     let mut message = vec![in heap; 0u8; length]?;
-    publish(&mut stage, &mut message, SIZE_LIMIT);
+    publish_all(&mut relay, &mut message, SIZE_LIMIT);
     let mut sum = SEED;
     for _ in 0..times {
-        stage.level()?;
+        let _login = relay.bring_level(Way::Anew)?;
+        let owned = relay.owned_pair();
         sum = mix(
-            mix(sum, stage.seat_log.count() as u64),
-            u64::from(stage.pair.in_step()),
+            mix(sum, owned.seat_log.count() as u64),
+            u64::from(owned.pair.in_step()),
         );
     }
-    Ok(mix_bytes(sum, stage.seat_log.bytes()))
+    Ok(mix_bytes(sum, relay.owned_pair().seat_log.bytes()))
 }
 
 // The hub publishes so many messages, or as many as its log takes.
-fn publish<L: SteadyLine + Drop>(stage: &mut Stage<L>, message: &mut [u8], count: usize) {
+fn publish_all<L: SteadyLine + Drop>(
+    relay: &mut Relay<Journal, Journal, L, L>,
+    message: &mut [u8],
+    count: usize,
+) {
     for number in 0..count {
         stamp(message, number as u64);
-        if stage.publish(message).is_err() {
+        if publish(relay, message).is_err() {
             return;
         }
     }
@@ -69,26 +76,26 @@ pub fn lives(
     held: usize,
     times: u64,
 ) -> Result<u64, Refusal> {
-    let mut stage = Stage::new(heap, size, ring(heap)?, ring(heap)?)?;
+    let mut relay = relay(heap, size, ring(heap)?, ring(heap)?)?;
     let mut message = vec![in heap; 0u8; length]?;
-    publish(&mut stage, &mut message, held);
-    stage.level()?;
+    publish_all(&mut relay, &mut message, held);
+    let _login = relay.bring_level(Way::Anew)?;
     let mut sum = SEED;
     for number in 0..times {
         stamp(&mut message, number);
-        sum = lived(sum, &mut stage, &message)?;
+        sum = lived(sum, &mut relay, &message)?;
     }
-    Ok(mix_bytes(sum, stage.seat_log.bytes()))
+    Ok(mix_bytes(sum, relay.owned_pair().seat_log.bytes()))
 }
 
 // One message, from the hub to the seat.
 fn lived<L: SteadyLine + Drop>(
     sum: u64,
-    stage: &mut Stage<L>,
+    relay: &mut Relay<Journal, Journal, L, L>,
     message: &[u8],
 ) -> Result<u64, Refusal> {
-    stage.publish(message)?;
-    let report = stage.round()?;
+    publish(relay, message)?;
+    let report = round(relay)?;
     Ok(mix(
         mix(sum, report.seat.packets as u64),
         report.hub.packets as u64,

@@ -19,8 +19,8 @@ mod journals;
 mod leveling;
 mod messages;
 pub mod rehearsals;
+mod relays;
 mod ring_runs;
-mod stages;
 mod sums;
 pub mod timed;
 

@@ -3,8 +3,8 @@ ghost use Rattle.std.specs.Prelude.{◌≡◌, ◌≢◌, ◌≤◌, length};
 
 use crate::handing::hand_trace;
 use rehearsal::{NoFiles, rehearse};
-use std::io;
 use std::alloc::Global;
+use std::io;
 use wire::Refusal;
 
 /// Rehearses a script, writes its trace at the front of a lent buffer, and tells the trace's length. There are no

@@ -23,7 +23,10 @@ pub extern "C" fn export_through_ring(
 ) -> u8
     ensures { result ≢ 0 → sum.new ≡ sum.old }
 {
-    hand_sum(crate::ring_runs::through_ring(heap, ring, length, times), sum)
+    hand_sum(
+        crate::ring_runs::through_ring(heap, ring, length, times),
+        sum,
+    )
 }
 
 /// Fills a journal: `scenarios::appends`.
@@ -126,5 +129,8 @@ pub extern "C" fn export_lives(
 ) -> u8
     ensures { result ≢ 0 → sum.new ≡ sum.old }
 {
-    hand_sum(crate::leveling::lives(heap, memory, length, held, times), sum)
+    hand_sum(
+        crate::leveling::lives(heap, memory, length, held, times),
+        sum,
+    )
 }

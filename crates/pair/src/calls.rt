@@ -25,15 +25,13 @@ impl Pair {
         down: &mut D,
         buffers: &mut Buffers,
     ) -> Result<(), Refusal>
-        ensures {
-            (hub_log : Meaning) →
+        ensures { (hub_log : Meaning) →
             let held = S.Log.view seat_log.now in
-            let up_before = U.Line.view up.old in
-            let up_after = U.Line.view up.new in
-            let before = pair_of self.old hub_log held up_before (D.Line.view down.old) buffers.old in
-            let after = pair_of self.new hub_log held up_after (D.Line.view down.new) buffers.new in
-            Does (Connect how) before result after
-        }
+            let before = pair_of self.old hub_log held
+            (U.Line.view up.old) (D.Line.view down.old) buffers.old in
+            let after = pair_of self.new hub_log held
+            (U.Line.view up.new) (D.Line.view down.new) buffers.new in
+            Does (Connect how) before result after }
     {
         self.seat
             .ask(how, &self.account, seat_log, up, &mut buffers.out)?;
@@ -43,14 +41,12 @@ impl Pair {
 
     /// The connection is cut: both ends are without one, and the lines are cleared.
     pub fn cut<U: Line, D: Line>(&mut self, up: &mut U, down: &mut D)
-        ensures {
-            (hub_log seat_log : Meaning) (lent : State.Buffers) →
-            let up_before = U.Line.view up.old in
-            let up_after = U.Line.view up.new in
-            let before = pair_of self.old hub_log seat_log up_before (D.Line.view down.old) lent in
-            let after = pair_of self.new hub_log seat_log up_after (D.Line.view down.new) lent in
-            Does Cut before (Ok tt) after
-        }
+        ensures { (hub_log seat_log : Meaning) (lent : State.Buffers) →
+            let before = pair_of self.old hub_log seat_log
+            (U.Line.view up.old) (D.Line.view down.old) lent in
+            let after = pair_of self.new hub_log seat_log
+            (U.Line.view up.new) (D.Line.view down.new) lent in
+            Does Cut before (Ok tt) after }
     {
         self.hub.cut(&mut self.accounts);
         self.seat.cut();
@@ -61,36 +57,30 @@ impl Pair {
     /// Publishes a message: the hub's log takes it. Refuses as the log does, and then by `SessionFinished`; a refusal
     /// changes nothing.
     pub fn publish<G: Log>(&mut self, message: &[u8], hub_log: &mut G) -> Result<(), Refusal>
-        ensures {
-            (seat_log : Meaning) (up down : LineView) (lent : State.Buffers) →
+        ensures { (seat_log : Meaning) (up down : LineView) (lent : State.Buffers) →
             let before = pair_of self.old (G.Log.view hub_log.old) seat_log up down lent in
             let after = pair_of self.new (G.Log.view hub_log.new) seat_log up down lent in
-            Does (Publish message.now) before result after
-        }
+            Does (Publish message.now) before result after }
     {
         self.hub.publish(message, hub_log)
     }
 
     /// Ends publishing in the session. Refuses by `SessionFinished`, with nothing changed.
     pub fn finish(&mut self) -> Result<(), Refusal>
-        ensures {
-            (hub_log seat_log : Meaning) (up down : LineView) (lent : State.Buffers) →
+        ensures { (hub_log seat_log : Meaning) (up down : LineView) (lent : State.Buffers) →
             let before = pair_of self.old hub_log seat_log up down lent in
             let after = pair_of self.new hub_log seat_log up down lent in
-            Does Finish before result after
-        }
+            Does Finish before result after }
     {
         self.hub.finish()
     }
 
     /// Begins the next session. Refuses by `HubBusy` and `LastSession`, with nothing changed.
     pub fn roll<G: Log>(&mut self, hub_log: &mut G) -> Result<(), Refusal>
-        ensures {
-            (seat_log : Meaning) (up down : LineView) (lent : State.Buffers) →
+        ensures { (seat_log : Meaning) (up down : LineView) (lent : State.Buffers) →
             let before = pair_of self.old (G.Log.view hub_log.old) seat_log up down lent in
             let after = pair_of self.new (G.Log.view hub_log.new) seat_log up down lent in
-            Does Roll before result after
-        }
+            Does Roll before result after }
     {
         self.hub.roll(hub_log)
     }
@@ -103,12 +93,10 @@ impl Pair {
         down: &mut D,
         buffers: &mut Buffers,
     ) -> Result<(), Refusal>
-        ensures {
-            (hub_log seat_log : Meaning) (up : LineView) →
+        ensures { (hub_log seat_log : Meaning) (up : LineView) →
             let before = pair_of self.old hub_log seat_log up (D.Line.view down.old) buffers.old in
             let after = pair_of self.new hub_log seat_log up (D.Line.view down.new) buffers.new in
-            Does (Tell message.now) before result after
-        }
+            Does (Tell message.now) before result after }
     {
         self.hub.tell(message, down, &mut buffers.out)
     }
@@ -121,12 +109,10 @@ impl Pair {
         up: &mut U,
         buffers: &mut Buffers,
     ) -> Result<(), Refusal>
-        ensures {
-            (hub_log seat_log : Meaning) (down : LineView) →
+        ensures { (hub_log seat_log : Meaning) (down : LineView) →
             let before = pair_of self.old hub_log seat_log (U.Line.view up.old) down buffers.old in
             let after = pair_of self.new hub_log seat_log (U.Line.view up.new) down buffers.new in
-            Does (Say message.now) before result after
-        }
+            Does (Say message.now) before result after }
     {
         self.seat.say(message, up, &mut buffers.out)
     }
@@ -134,24 +120,20 @@ impl Pair {
     /// The seat leaves: it says that it is done, and is apart. Refuses by `ShortBuffer`, `LineFull`, `WrongPhase`, in
     /// this order; a refusal changes nothing.
     pub fn leave<U: Line>(&mut self, up: &mut U, buffers: &mut Buffers) -> Result<(), Refusal>
-        ensures {
-            (hub_log seat_log : Meaning) (down : LineView) →
+        ensures { (hub_log seat_log : Meaning) (down : LineView) →
             let before = pair_of self.old hub_log seat_log (U.Line.view up.old) down buffers.old in
             let after = pair_of self.new hub_log seat_log (U.Line.view up.new) down buffers.new in
-            Does Leave before result after
-        }
+            Does Leave before result after }
     {
         self.seat.leave(up, &mut buffers.out)
     }
 
     /// A tick passes for both ends, first for the hub. Refuses by `ShortBuffer`, with nothing changed.
     pub fn tick<D: Line>(&mut self, down: &mut D, buffers: &mut Buffers) -> Result<(), Refusal>
-        ensures {
-            (hub_log seat_log : Meaning) (up : LineView) →
+        ensures { (hub_log seat_log : Meaning) (up : LineView) →
             let before = pair_of self.old hub_log seat_log up (D.Line.view down.old) buffers.old in
             let after = pair_of self.new hub_log seat_log up (D.Line.view down.new) buffers.new in
-            Does Tick before result after
-        }
+            Does Tick before result after }
     {
         self.hub.tick(&mut self.accounts, down, &mut buffers.out)?;
         self.seat.tick();

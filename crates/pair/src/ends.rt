@@ -22,15 +22,13 @@ impl Pair {
         down: &mut D,
         buffers: &mut Buffers,
     ) -> Result<Received, Refusal>
-        ensures {
-            (seat_log : Meaning) →
+        ensures { (seat_log : Meaning) →
             let log = G.Log.view hub_log.now in
-            let up_before = U.Line.view up.old in
-            let up_after = U.Line.view up.new in
-            let before = pair_of self.old log seat_log up_before (D.Line.view down.old) buffers.old in
-            let after = pair_of self.new log seat_log up_after (D.Line.view down.new) buffers.new in
-            ReceivesAtHub before result after
-        }
+            let before = pair_of self.old log seat_log
+            (U.Line.view up.old) (D.Line.view down.old) buffers.old in
+            let after = pair_of self.new log seat_log
+            (U.Line.view up.new) (D.Line.view down.new) buffers.new in
+            ReceivesAtHub before result after }
     {
         self.hub.receive(
             hub_log,
@@ -51,17 +49,20 @@ impl Pair {
         down: &mut D,
         buffers: &mut Buffers,
     ) -> Result<Received, Refusal>
-        ensures {
-            (hub_log : Meaning) →
+        ensures { (hub_log : Meaning) →
             let before = pair_of self.old hub_log (S.Log.view seat_log.old)
-                (U.Line.view up.old) (D.Line.view down.old) buffers.old in
+            (U.Line.view up.old) (D.Line.view down.old) buffers.old in
             let after = pair_of self.new hub_log (S.Log.view seat_log.new)
-                (U.Line.view up.new) (D.Line.view down.new) buffers.new in
-            ReceivesAtSeat before result after
-        }
+            (U.Line.view up.new) (D.Line.view down.new) buffers.new in
+            ReceivesAtSeat before result after }
     {
-        self.seat
-            .receive(seat_log, up, down, &mut buffers.seat_frame, &mut buffers.out)
+        self.seat.receive(
+            seat_log,
+            up,
+            down,
+            &mut buffers.seat_frame,
+            &mut buffers.out,
+        )
     }
 
     /// The hub sends what is due, one packet at most, and answers its letter. Refuses by `ShortBuffer`, `WrongPhase`
@@ -72,13 +73,11 @@ impl Pair {
         down: &mut D,
         buffers: &mut Buffers,
     ) -> Result<Option<Letter>, Refusal>
-        ensures {
-            (seat_log : Meaning) (up : LineView) →
+        ensures { (seat_log : Meaning) (up : LineView) →
             let log = G.Log.view hub_log.now in
             let before = pair_of self.old log seat_log up (D.Line.view down.old) buffers.old in
             let after = pair_of self.new log seat_log up (D.Line.view down.new) buffers.new in
-            SendsFromHub before result after
-        }
+            SendsFromHub before result after }
     {
         self.hub
             .send(hub_log, &mut self.accounts, down, &mut buffers.out)
@@ -92,13 +91,11 @@ impl Pair {
         up: &mut U,
         buffers: &mut Buffers,
     ) -> Result<Option<Letter>, Refusal>
-        ensures {
-            (hub_log : Meaning) (down : LineView) →
+        ensures { (hub_log : Meaning) (down : LineView) →
             let log = S.Log.view seat_log.now in
             let before = pair_of self.old hub_log log (U.Line.view up.old) down buffers.old in
             let after = pair_of self.new hub_log log (U.Line.view up.new) down buffers.new in
-            SendsFromSeat before result after
-        }
+            SendsFromSeat before result after }
     {
         self.seat.send(seat_log, up, &mut buffers.out)
     }

@@ -23,60 +23,48 @@ pub struct Pair {
 impl Pair {
     /// Where the hub stands with its connection.
     pub fn hub_phase(&self) -> HubPhase
-        ensures {
-            (hub_log seat_log : Meaning) (up down : LineView) (lent : State.Buffers) →
-            result ≡ (pair_of self.now hub_log seat_log up down lent).hub.phase
-        }
+        ensures { (hub_log seat_log : Meaning) (up down : LineView) (lent : State.Buffers) →
+            result ≡ (pair_of self.now hub_log seat_log up down lent).hub.phase }
     {
         self.hub.phase()
     }
 
     /// Where the seat stands with its connection.
     pub fn seat_phase(&self) -> SeatPhase
-        ensures {
-            (hub_log seat_log : Meaning) (up down : LineView) (lent : State.Buffers) →
-            result ≡ (pair_of self.now hub_log seat_log up down lent).seat.phase
-        }
+        ensures { (hub_log seat_log : Meaning) (up down : LineView) (lent : State.Buffers) →
+            result ≡ (pair_of self.now hub_log seat_log up down lent).seat.phase }
     {
         self.seat.phase()
     }
 
     /// Whether publishing is finished in the session of the hub's log.
     pub fn is_finished(&self) -> bool
-        ensures {
-            (hub_log seat_log : Meaning) (up down : LineView) (lent : State.Buffers) →
-            result ≡ (pair_of self.now hub_log seat_log up down lent).running.finished
-        }
+        ensures { (hub_log seat_log : Meaning) (up down : LineView) (lent : State.Buffers) →
+            result ≡ (pair_of self.now hub_log seat_log up down lent).running.finished }
     {
         self.hub.is_finished()
     }
 
     /// Whether the seat has reported itself in step since the connect: that it holds all that was published.
     pub fn in_step(&self) -> bool
-        ensures {
-            (hub_log seat_log : Meaning) (up down : LineView) (lent : State.Buffers) →
-            result ≡ (pair_of self.now hub_log seat_log up down lent).seat.in_step
-        }
+        ensures { (hub_log seat_log : Meaning) (up down : LineView) (lent : State.Buffers) →
+            result ≡ (pair_of self.now hub_log seat_log up down lent).seat.in_step }
     {
         self.seat.in_step()
     }
 
     /// The status that rejected the seat's login, if one did.
     pub fn status(&self) -> Option<Status>
-        ensures {
-            (hub_log seat_log : Meaning) (up down : LineView) (lent : State.Buffers) →
-            result ≡ (pair_of self.now hub_log seat_log up down lent).seat.status
-        }
+        ensures { (hub_log seat_log : Meaning) (up down : LineView) (lent : State.Buffers) →
+            result ≡ (pair_of self.now hub_log seat_log up down lent).seat.status }
     {
         self.seat.status()
     }
 
     /// The account table of the hub.
     pub fn accounts(&self) -> &Accounts
-        ensures {
-            (hub_log seat_log : Meaning) (up down : LineView) (lent : State.Buffers) →
-            result.now.rows ≡ (pair_of self.now hub_log seat_log up down lent).rows
-        }
+        ensures { (hub_log seat_log : Meaning) (up down : LineView) (lent : State.Buffers) →
+            result.now.rows ≡ (pair_of self.now hub_log seat_log up down lent).rows }
     {
         &self.accounts
     }

@@ -50,14 +50,12 @@ impl Pair {
         down: &mut D,
         buffers: &mut Buffers,
     ) -> Result<Report, Refusal>
-        ensures {
-            let log = G.Log.view hub_log.now in
+        ensures { let log = G.Log.view hub_log.now in
             let before = pair_of self.old log (S.Log.view seat_log.old)
-                (U.Line.view up.old) (D.Line.view down.old) buffers.old in
+            (U.Line.view up.old) (D.Line.view down.old) buffers.old in
             let after = pair_of self.new log (S.Log.view seat_log.new)
-                (U.Line.view up.new) (D.Line.view down.new) buffers.new in
-            GoesRound before result after
-        }
+            (U.Line.view up.new) (D.Line.view down.new) buffers.new in
+            GoesRound before result after }
     {
         if buffers.is_short() {
             return Err(Refusal::ShortBuffer);
@@ -80,15 +78,13 @@ impl Pair {
         requires frame { packet_limit ≤ length buffers.old.hub_frame }
         requires out { packet_limit ≤ length buffers.old.out }
         ensures lengths { NoShorter buffers.old buffers.new }
-        ensures drained {
-            (seat_log : Meaning) →
+        ensures drained { (seat_log : Meaning) →
             let log = G.Log.view hub_log.now in
-            let up_before = U.Line.view up.old in
-            let up_after = U.Line.view up.new in
-            let before = pair_of self.old log seat_log up_before (D.Line.view down.old) buffers.old in
-            let after = pair_of self.new log seat_log up_after (D.Line.view down.new) buffers.new in
-            Drains HubReceives before result.packets result.fault after
-        }
+            let before = pair_of self.old log seat_log
+            (U.Line.view up.old) (D.Line.view down.old) buffers.old in
+            let after = pair_of self.new log seat_log
+            (U.Line.view up.new) (D.Line.view down.new) buffers.new in
+            Drains HubReceives before result.packets result.fault after }
     {
         // Each packet takes a byte at least, so that there are no more of them than this.
         let _most = up.waiting();
@@ -112,14 +108,12 @@ impl Pair {
         requires frame { packet_limit ≤ length buffers.old.seat_frame }
         requires out { packet_limit ≤ length buffers.old.out }
         ensures lengths { NoShorter buffers.old buffers.new }
-        ensures drained {
-            (hub_log : Meaning) →
+        ensures drained { (hub_log : Meaning) →
             let before = pair_of self.old hub_log (S.Log.view seat_log.old)
-                (U.Line.view up.old) (D.Line.view down.old) buffers.old in
+            (U.Line.view up.old) (D.Line.view down.old) buffers.old in
             let after = pair_of self.new hub_log (S.Log.view seat_log.new)
-                (U.Line.view up.new) (D.Line.view down.new) buffers.new in
-            Drains SeatReceives before result.packets result.fault after
-        }
+            (U.Line.view up.new) (D.Line.view down.new) buffers.new in
+            Drains SeatReceives before result.packets result.fault after }
     {
         let _most = down.waiting();
         let mut packets = 0;

@@ -42,13 +42,11 @@ impl Pair {
         seat_log: &S,
         buffers: &Buffers,
     ) -> Result<Pair, Unmade<Accounts>>
-        ensures {
-            (up down : LineView) →
+        ensures { (up down : LineView) →
             let held = S.Log.view seat_log.now in
             let log = G.Log.view hub_log.old in
             let given = parts_of log held up down accounts texts.entry buffers.now in
-            SetsUp given accounts result (G.Log.view hub_log.new)
-        }
+            SetsUp given accounts result (G.Log.view hub_log.new) }
     {
         if buffers.is_short() {
             return Err(Unmade {
@@ -89,7 +87,7 @@ fn start<G: Log>(log: &mut G)
     }
 }
 
-// Whether the seat's log is empty without a session, or a beginning of the hub's, as that is once it is started.
+// Whether the seat's log is empty without a session, or a prefix of the hub's, as that is once it is started.
 fn follows<S: Log, G: Log>(seat_log: &S, hub_log: &G) -> bool
     ensures { result ≡ follows (S.Log.view seat_log.now) (started (G.Log.view hub_log.now)) }
 {
@@ -100,17 +98,15 @@ fn follows<S: Log, G: Log>(seat_log: &S, hub_log: &G) -> bool
         0 => FIRST_SESSION,
         session => session,
     };
-    seat_log.session() == session && begins(seat_log, hub_log)
+    seat_log.session() == session && is_prefix(seat_log, hub_log)
 }
 
-// Whether the messages of a log are the first ones of another.
-fn begins<S: Log, G: Log>(beginning: &S, log: &G) -> bool
-    ensures {
-        result ≡ first_of (S.Log.view beginning.now).messages (G.Log.view log.now).messages
-    }
+// Whether the messages of a log are a prefix of those of another.
+fn is_prefix<S: Log, G: Log>(prefix: &S, log: &G) -> bool
+    ensures { result ≡ first_of (S.Log.view prefix.now).messages (G.Log.view log.now).messages }
 {
-    for place in 0..beginning.count() {
-        if !share(beginning, log, place + 1) {
+    for index in 0..prefix.count() {
+        if !share(prefix, log, index + 1) {
             return false;
         }
     }
@@ -119,11 +115,9 @@ fn begins<S: Log, G: Log>(beginning: &S, log: &G) -> bool
 
 // Whether both logs hold a message n, and it is the same.
 fn share<S: Log, G: Log>(one: &S, other: &G, n: usize) -> bool
-    ensures {
-        let a = S.Log.view one.now in
+    ensures { let a = S.Log.view one.now in
         let b = G.Log.view other.now in
-        result ≡ has a n && (has b n && bytes_eq (nth a n) (nth b n))
-    }
+        result ≡ has a n && (has b n && bytes_eq (nth a n) (nth b n)) }
 {
     let mut message = [0; MESSAGE_LIMIT];
     let mut twin = [0; MESSAGE_LIMIT];

@@ -4,55 +4,25 @@ use line::SMALLEST_SIZE;
 use lines::{Paced, Ring};
 use logs::{Indexed, Journal};
 use message_log::Log;
-use pair::Pair;
-use relay::{Answer, Call, Way, bring_level, perform, play};
+use pair::{AccountTexts, Buffers};
+use relay::{Answer, Call, Credentials, Parts, Relay, Slot, Way, run};
 use rules::{How, HubPhase, SeatPhase};
 use std::alloc::Global;
 use std::test::Fail;
-use wire::{PACKET_LIMIT, Refusal};
+use wire::{Refusal, Status};
 
-/// A pair, and all that its calls are lent. The down line hands over eight bytes at once.
-#[derive(Drop)]
-struct Bench {
-    pair: Pair,
-    hub_log: Journal,
-    seat_log: Indexed,
-    up: Ring,
-    down: Paced<Ring>,
-    hub_frame: Vec<u8>,
-    seat_frame: Vec<u8>,
-    out: Vec<u8>,
-}
+/// The account of the seat, whose case does not matter.
+const SEAT: AccountTexts = AccountTexts {
+    user: b"MM01",
+    computer: b"desk1",
+    protocol: b"fill1.0",
+};
 
-impl Bench {
-    fn call(&mut self, call: Call) -> Answer {
-        perform(
-            &mut self.pair,
-            call,
-            &mut self.hub_log,
-            &mut self.seat_log,
-            &mut self.up,
-            &mut self.down,
-            &mut self.hub_frame,
-            &mut self.seat_frame,
-            &mut self.out,
-        )
-    }
+/// The down line hands over eight bytes at once.
+type Bench = Relay<Journal, Indexed, Ring, Paced<Ring>>;
 
-    fn level(&mut self, way: Way) -> Result<(), Refusal> {
-        bring_level(
-            &mut self.pair,
-            way,
-            &self.hub_log,
-            &mut self.seat_log,
-            &mut self.up,
-            &mut self.down,
-            &mut self.hub_frame,
-            &mut self.seat_frame,
-            &mut self.out,
-        )
-    }
-}
+/// What it is set up of.
+type BenchParts = Parts<Journal, Indexed, Ring, Paced<Ring>>;
 
 fn accounts() -> Result<Accounts, Refusal> {
     let mut accounts = Accounts::new();
@@ -76,48 +46,31 @@ fn paced(heap: Global) -> Result<Paced<Ring>, Refusal> {
     Ok(Paced::new(ring(heap)?, 8)?)
 }
 
-fn buffer(heap: Global) -> Result<Vec<u8>, Refusal> {
-    Ok(vec![in heap; 0u8; PACKET_LIMIT]?)
-}
-
-fn set_up(heap: Global) -> Result<Bench, Refusal> {
-    let mut hub_log = journal(heap)?;
-    let seat_log = indexed(heap)?;
-    let hub_frame = buffer(heap)?;
-    let seat_frame = buffer(heap)?;
-    let out = buffer(heap)?;
-    let pair = Pair::set_up(
-        accounts()?,
-        b"MM01",
-        b"desk1",
-        b"fill1.0",
-        &mut hub_log,
-        &seat_log,
-        &hub_frame,
-        &seat_frame,
-        &out,
-    )?;
-    Ok(Bench {
-        pair,
-        hub_log,
-        seat_log,
+fn parts(heap: Global) -> Result<BenchParts, Refusal> {
+    Ok(Parts {
+        hub_log: journal(heap)?,
+        seat_log: indexed(heap)?,
         up: ring(heap)?,
         down: paced(heap)?,
-        hub_frame,
-        seat_frame,
-        out,
+        accounts: accounts()?,
+        seat: Credentials::of(heap, SEAT)?,
+        buffers: Buffers::new(heap)?,
     })
+}
+
+fn set_up(parts: BenchParts) -> Result<Bench, Refusal> {
+    Ok(Relay::set_up(parts)?)
 }
 
 // Three messages are published, and one has arrived when the connection breaks in the middle of the second.
 fn broken(heap: Global) -> Result<Bench, Refusal> {
-    let mut bench = set_up(heap)?;
+    let mut bench = set_up(parts(heap)?)?;
     for message in [
         b"first".as_slice(),
         b"second".as_slice(),
         b"third".as_slice(),
     ] {
-        let _ = bench.call(Call::Publish(message));
+        let _ = bench.perform(Call::Publish(message));
     }
     for call in [
         Call::Connect(How::Join),
@@ -128,7 +81,7 @@ fn broken(heap: Global) -> Result<Bench, Refusal> {
         Call::SeatReceive,
         Call::Cut,
     ] {
-        let _ = bench.call(call);
+        let _ = bench.perform(call);
     }
     Ok(bench)
 }
@@ -149,43 +102,47 @@ fn holds(log: &Indexed, n: usize, message: &[u8]) -> bool {
 #[test]
 fn a_break_inside_a_packet_is_made_good(rt: HostRuntime) -> Result<(), Fail> {
     let mut bench = broken(rt.alloc())?;
-    assert_eq!(rt; bench.seat_log.count(), 1);
-    assert_eq!(rt; bench.level(Way::Join), Ok(()));
-    assert_eq!(rt; bench.seat_log.count(), 3);
-    assert!(rt; holds(&bench.seat_log, 1, b"first"));
-    assert!(rt; holds(&bench.seat_log, 2, b"second"));
-    assert!(rt; holds(&bench.seat_log, 3, b"third"));
+    assert_eq!(rt; bench.owned_pair().seat_log.count(), 1);
+    assert_eq!(rt; bench.bring_level(Way::Join), Ok(Some(Status::Accepted)));
+    assert_eq!(rt; bench.owned_pair().seat_log.count(), 3);
+    assert!(rt; holds(&bench.owned_pair().seat_log, 1, b"first"));
+    assert!(rt; holds(&bench.owned_pair().seat_log, 2, b"second"));
+    assert!(rt; holds(&bench.owned_pair().seat_log, 3, b"third"));
     // One round more brings synchronization complete.
-    assert!(rt; !bench.pair.in_step());
-    let _ = bench.call(Call::Round);
-    assert!(rt; bench.pair.in_step());
+    assert!(rt; !bench.owned_pair().pair.in_step());
+    let _ = bench.perform(Call::Round);
+    assert!(rt; bench.owned_pair().pair.in_step());
     Ok(())
 }
 
 #[test]
 fn thirty_silent_ticks_are_survived(rt: HostRuntime) -> Result<(), Fail> {
-    let mut bench = set_up(rt.alloc())?;
-    let _ = bench.call(Call::Connect(How::Join));
-    let _ = bench.call(Call::Round);
+    let mut bench = set_up(parts(rt.alloc())?)?;
+    let _ = bench.perform(Call::Connect(How::Join));
+    let _ = bench.perform(Call::Round);
     for _ in 0..30 {
-        assert_eq!(rt; done(bench.call(Call::Tick)), Some(Ok(())));
+        assert_eq!(rt; done(bench.perform(Call::Tick)), Some(Ok(())));
     }
-    assert!(rt; matches!(bench.pair.hub_phase(), HubPhase::Serving { .. }));
-    assert!(rt; matches!(bench.pair.seat_phase(), SeatPhase::Live));
-    assert_eq!(rt; done(bench.call(Call::Tick)), Some(Ok(())));
-    assert!(rt; matches!(bench.pair.hub_phase(), HubPhase::Shut));
-    assert!(rt; matches!(bench.pair.seat_phase(), SeatPhase::Apart));
+    assert!(rt;
+        matches!(
+            bench.owned_pair().pair.hub_phase(),
+            HubPhase::Serving { .. }
+        )
+    );
+    assert!(rt; matches!(bench.owned_pair().pair.seat_phase(), SeatPhase::Live));
+    assert_eq!(rt; done(bench.perform(Call::Tick)), Some(Ok(())));
+    assert!(rt; matches!(bench.owned_pair().pair.hub_phase(), HubPhase::Shut));
+    assert!(rt; matches!(bench.owned_pair().pair.seat_phase(), SeatPhase::Apart));
     assert_eq!(rt;
-        done(bench.call(Call::Leave)),
+        done(bench.perform(Call::Leave)),
         Some(Err(Refusal::WrongPhase))
     );
     Ok(())
 }
 
 #[test]
-fn a_list_of_calls_is_played(rt: HostRuntime) -> Result<(), Fail> {
-    let heap = rt.alloc();
-    let calls = [
+fn a_list_of_calls_is_run(rt: HostRuntime) -> Result<(), Fail> {
+    let mut slots = [
         Call::Publish(b"AB"),
         Call::Connect(How::Anew),
         Call::Round,
@@ -193,57 +150,66 @@ fn a_list_of_calls_is_played(rt: HostRuntime) -> Result<(), Fail> {
         Call::Round,
         Call::Finish,
         Call::Finish,
-    ];
-    let mut hub_log = journal(heap)?;
-    let mut seat_log = indexed(heap)?;
-    let played = play(
-        heap,
-        accounts()?,
-        b"mm01",
-        b"desk1",
-        b"fill1.0",
-        &calls,
-        &mut hub_log,
-        &mut seat_log,
-        &mut ring(heap)?,
-        &mut paced(heap)?,
-        &mut buffer(heap)?,
-        &mut buffer(heap)?,
-        &mut buffer(heap)?,
-    )?;
-    assert_eq!(rt; played.answers.len(), calls.len());
+    ]
+    .map(Slot::from);
+    let mut bench = set_up(parts(rt.alloc())?)?;
+    bench.run(&mut slots);
+    assert!(rt; slots.iter().all(|slot| slot.answer.is_some()));
     assert!(rt;
         matches!(
-            played.answers[6],
-            Answer::Done(Err(Refusal::SessionFinished))
+            slots[6].answer,
+            Some(Answer::Done(Err(Refusal::SessionFinished)))
         )
     );
-    assert!(rt; holds(&seat_log, 1, b"AB"));
-    assert!(rt; played.pair.in_step());
+    assert!(rt; holds(&bench.owned_pair().seat_log, 1, b"AB"));
+    assert!(rt; bench.owned_pair().pair.in_step());
     Ok(())
 }
 
 #[test]
-fn set_up_hands_the_table_back(rt: HostRuntime) -> Result<(), Fail> {
+fn a_list_of_calls_is_run_on_what_is_lent(rt: HostRuntime) -> Result<(), Fail> {
+    let mut slots = [Call::Publish(b"AB"), Call::Cut].map(Slot::from);
+    let mut owned = set_up(parts(rt.alloc())?)?.into_owned_pair();
+    run(
+        &mut owned.pair,
+        &mut slots,
+        &mut owned.hub_log,
+        &mut owned.seat_log,
+        &mut owned.up,
+        &mut owned.down,
+        &mut owned.buffers,
+    );
+    assert!(rt; matches!(slots[1].answer, Some(Answer::Done(Ok(())))));
+    assert_eq!(rt; owned.hub_log.count(), 1);
+    Ok(())
+}
+
+#[test]
+fn a_rejected_login_is_reported(rt: HostRuntime) -> Result<(), Fail> {
     let heap = rt.alloc();
-    let mut hub_log = journal(heap)?;
-    let seat_log = indexed(heap)?;
-    let long = buffer(heap)?;
-    let Err(unmade) = Pair::set_up(
-        accounts()?,
-        b"mm0001",
-        b"desk1",
-        b"fill1.0",
-        &mut hub_log,
-        &seat_log,
-        &long,
-        &long,
-        &long,
-    ) else {
+    let mut parts = parts(heap)?;
+    parts.accounts = Accounts::new();
+    let mut bench = set_up(parts)?;
+    assert_eq!(rt; bench.bring_level(Way::Anew), Ok(Some(Status::UnknownUser)));
+    Ok(())
+}
+
+#[test]
+fn set_up_hands_the_parts_back(rt: HostRuntime) -> Result<(), Fail> {
+    let heap = rt.alloc();
+    let mut parts = parts(heap)?;
+    parts.seat = Credentials::of(
+        heap,
+        AccountTexts {
+            user: b"mm0001",
+            ..SEAT
+        },
+    )?;
+    let Err(unmade) = Relay::set_up(parts) else {
         return Err(Fail::new("a user of six bytes is refused"));
     };
     assert_eq!(rt; unmade.refusal, Refusal::BadAccountField);
-    assert_eq!(rt; unmade.given.count(), 1);
-    assert_eq!(rt; hub_log.session(), 0);
+    assert_eq!(rt; unmade.given.accounts.count(), 1);
+    assert_eq!(rt; unmade.given.hub_log.session(), 0);
     Ok(())
 }

@@ -14,7 +14,7 @@ use Rattle.any_pair.specs.declared.forms.LogForm.{LogForm}
 use Rattle.any_pair.specs.declared.forms.LogForm.TheVariants as G
 use Rattle.any_pair.specs.declared.forms.LineForm.{LineForm}
 use Rattle.any_pair.specs.declared.forms.LineForm.TheVariants as L
-use Rattle.any_pair.specs.declared.forms.Texts.{Texts}
+use Rattle.pair.specs.declared.setting.AccountTexts.{AccountTexts}
 use Rattle.any_pair.specs.declared.forms.Part.{Part}
 use Rattle.any_pair.specs.declared.forms.Part.TheVariants as P
 use Rattle.rehearsal.specs.declared.commands.Action.{Action}
@@ -63,7 +63,7 @@ LineWords words (L.Straight size) = (length words ≡ 2) × (word words 0 ≡ co
 LineWords words (L.PacedRing pace size) = (length words ≡ 4) × (word words 0 ≡ codes "paced") × Numeral (word words 1) pace × (word words 2 ≡ codes "ring") × Numeral (word words 3) size
 LineWords words (L.PacedStraight pace size) = (length words ≡ 4) × (word words 0 ≡ codes "paced") × Numeral (word words 1) pace × (word words 2 ≡ codes "straight") × Numeral (word words 3) size
 
-abbrev pub TextWords : Words → Texts → Type 0
+abbrev pub TextWords : Words → AccountTexts → Type 0
 TextWords words texts = (length words ≡ 3) × (texts.user.now ≡ word words 0) × (texts.computer.now ≡ word words 1) × (texts.protocol.now ≡ word words 2)
 
 -- the line of a part

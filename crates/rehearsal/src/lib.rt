@@ -21,7 +21,7 @@ mod summing;
 mod sums;
 mod troubles;
 
-pub use commands::{Command, Action, Question};
+pub use commands::{Action, Command, Question};
 pub use files::{Files, NoFiles};
 pub use reading::{Words, command_of, is_passed_over};
 pub use rehearsals::rehearse;

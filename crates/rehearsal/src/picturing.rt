@@ -5,19 +5,20 @@ use any_pair::AnyPair;
 use line::{Line, PeekLine};
 use message_log::Log;
 use pair::Pair;
-use std::io;
 use std::alloc::Global;
+use std::io;
 use std::io::Write;
 use wire::MESSAGE_LIMIT;
 
 /// Writes how a pair stands.
-pub(crate) fn show_play<W: Write>(out: &mut W, play: &AnyPair) -> io::Result<()> {
-    show_ends(out, &play.pair)?;
-    show_counts(out, " hub-log", &play.hub_log)?;
-    show_counts(out, " seat-log", &play.seat_log)?;
-    show_room(out, " up", &play.up)?;
-    show_room(out, " down", &play.down)?;
-    let rows = play.pair.accounts().rows();
+pub(crate) fn show_pair<W: Write>(out: &mut W, pair: &AnyPair) -> io::Result<()> {
+    let owned = &pair.owned;
+    show_ends(out, &owned.pair)?;
+    show_counts(out, " hub-log", &owned.hub_log)?;
+    show_counts(out, " seat-log", &owned.seat_log)?;
+    show_room(out, " up", &owned.up)?;
+    show_room(out, " down", &owned.down)?;
+    let rows = owned.pair.accounts().rows();
     let marked = rows.iter().filter(|row| row.marked).count();
     write!(out, " marked {marked}")
 }

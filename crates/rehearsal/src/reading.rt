@@ -1,11 +1,15 @@
 //! From a line to the command that it asks for.
 ghost use Rattle.std.specs.Prelude.{ℕ, IfOk, IfErr, IfSome};
-ghost use Rattle.rehearsal.specs.Lines.{word, Hexadecimal, Numeral, NumeralUpTo, longest_buffer, most_ticks, LogWords, LineWords, TextWords, PartLine, EndWord, QuestionLine, CallLine, ActionLine, CommandLine};
+ghost use Rattle.rehearsal.specs.Lines.{word, Hexadecimal, Numeral, NumeralUpTo};
+ghost use Rattle.rehearsal.specs.Lines.{longest_buffer, most_ticks, LogWords, LineWords, TextWords};
+ghost use Rattle.rehearsal.specs.Lines.{PartLine, EndWord, QuestionLine, CallLine, ActionLine};
+ghost use Rattle.rehearsal.specs.Lines.{CommandLine};
 
-use crate::commands::{Command, Action, Question};
+use crate::commands::{Action, Command, Question};
 use crate::troubles::Malformed;
-use any_pair::{End, LineForm, LogForm, Part, Side, Texts};
+use any_pair::{End, LineForm, LogForm, Part, Side};
 use hex::FromHexError;
+use pair::AccountTexts;
 use relay::{Call, Way};
 use rules::How;
 use std::alloc::{AllocError, Global};
@@ -26,7 +30,8 @@ pub struct Words<'a> {
 impl<'a> Words<'a> {
     /// The words of a line.
     pub fn of(heap: Global, line: &'a str) -> Result<Words<'a>, AllocError>
-        ensures { IfOk result (λ w. IfSome w.bytes (λ v. Hexadecimal (word w.words.items 1) v.items)) }
+        ensures { IfOk result
+            (λ w. IfSome w.bytes (λ v. Hexadecimal (word w.words.items 1) v.items)) }
     {
         let words: Vec<&'a str> = line.split_whitespace().collect(heap)?;
         let bytes = match words.as_slice() {
@@ -158,14 +163,14 @@ fn line_form(words: &[&str]) -> Result<LineForm, Malformed>
     }
 }
 
-fn texts_of<'a>(words: &[&'a str]) -> Result<Texts<'a>, Malformed>
+fn texts_of<'a>(words: &[&'a str]) -> Result<AccountTexts<'a>, Malformed>
     ensures is { IfOk result (λ texts. TextWords words.now texts) }
-    ensures no_other { IfErr result (λ _. (texts : Texts) → TextWords words.now texts → ⊥) }
+    ensures no_other { IfErr result (λ _. (texts : AccountTexts) → TextWords words.now texts → ⊥) }
 {
     let [user, computer, protocol] = words else {
         return Err(Malformed::NoCommand);
     };
-    Ok(Texts {
+    Ok(AccountTexts {
         user: user.as_bytes(),
         computer: computer.as_bytes(),
         protocol: protocol.as_bytes(),
@@ -186,7 +191,8 @@ fn length_of(word: &str) -> Result<usize, Malformed>
 
 fn question_of<'a>(words: &[&'a str]) -> Result<Question<'a>, Malformed>
     ensures is { IfOk result (λ question. QuestionLine words.now question) }
-    ensures no_other { IfErr result (λ _. (question : Question) → QuestionLine words.now question → ⊥) }
+    ensures no_other { IfErr result
+        (λ _. (question : Question) → QuestionLine words.now question → ⊥) }
 {
     match words {
         ["show"] => Ok(Question::Pair),

@@ -1,7 +1,7 @@
 //! Rehearsals, line by line.
 use crate::commands::{Command, Question};
 use crate::files::Files;
-use crate::picturing::{show_log, show_play, show_wire};
+use crate::picturing::{show_log, show_pair, show_wire};
 use crate::reading::{Words, command_of, is_passed_over};
 use crate::showing::{show_answer, show_bytes, show_trouble};
 use crate::stages::Stage;
@@ -10,8 +10,8 @@ use crate::sums::Sums;
 use crate::troubles::{Malformed, Trouble};
 use any_pair::{LogForm, Part};
 use packet::LetterCounts;
-use std::io;
 use std::alloc::{AllocError, Global};
+use std::io;
 use std::io::{BufRead, Write};
 
 /// A rehearsal: how far it is, and what its calls came to.
@@ -108,8 +108,8 @@ impl Rehearsal {
     ) -> Result<(), Trouble> {
         match question {
             Question::Pair => match &self.stage {
-                Stage::Playing(play) => Ok(show_play(out, play)?),
-                Stage::Making(_) => Err(Trouble::Malformed(Malformed::NotSetUp)),
+                Stage::Running(pair) => Ok(show_pair(out, pair)?),
+                Stage::Building(_) => Err(Trouble::Malformed(Malformed::NotSetUp)),
             },
             Question::Wire => {
                 let (up, down) = self.stage.lines()?;
@@ -129,8 +129,8 @@ impl Rehearsal {
     pub(crate) fn sum_up<W: Write>(&self, out: &mut W) -> io::Result<()> {
         let none = LetterCounts::new();
         let (hub, seat) = match &self.stage {
-            Stage::Making(_) => (&none, &none),
-            Stage::Playing(play) => (play.down.tally(), play.up.tally()),
+            Stage::Building(_) => (&none, &none),
+            Stage::Running(pair) => (pair.owned.down.tally(), pair.owned.up.tally()),
         };
         show_sums(out, &self.sums, hub, seat)
     }

@@ -2,8 +2,8 @@
 use crate::files::Files;
 use crate::reading::{Words, is_passed_over};
 use crate::rehearsals::Rehearsal;
-use std::io;
 use std::alloc::Global;
+use std::io;
 use std::io::{BufRead, Write};
 
 /// What came of a trace: how many answers there are, and how many are others now.

@@ -3,10 +3,10 @@ use crate::naming::letter_of;
 use crate::troubles::Trouble;
 use relay::Answer;
 use rules::{Heard, Received, Report};
-use std::io;
 use std::alloc::Global;
+use std::io;
 use std::io::Write;
-use wire::{Fault, Letter, LogFault, Refusal};
+use wire::{Fault, Letter, Refusal};
 
 /// Writes bytes in pairs of digits, `-` for none.
 pub(crate) fn show_bytes<W: Write>(heap: Global, out: &mut W, bytes: &[u8]) -> io::Result<()> {
@@ -22,8 +22,8 @@ pub(crate) fn show_answer<W: Write>(out: &mut W, answer: Answer) -> io::Result<(
         Answer::Done(Ok(())) => out.write_all(b"ok"),
         Answer::Done(Err(refusal)) => show_refusal(out, refusal),
         Answer::Received(Ok(received)) => show_received(out, received),
-        Answer::Received(Err(refusal)) => show_taken_wrong(out, refusal),
-        Answer::Sent(Ok(letter)) => show_put(out, letter),
+        Answer::Received(Err(refusal)) => show_receive_refusal(out, refusal),
+        Answer::Sent(Ok(letter)) => show_sent(out, letter),
         Answer::Sent(Err(refusal)) => show_refusal(out, refusal),
         Answer::Round(Ok(report)) => show_report(out, report),
         Answer::Round(Err(refusal)) => show_refusal(out, refusal),
@@ -48,18 +48,15 @@ fn show_refusal<W: Write>(out: &mut W, refusal: Refusal) -> io::Result<()> {
     write!(out, "refused {number} ({refusal})")
 }
 
-// The refusal of a receive: what was wrong is told with its place.
-fn show_taken_wrong<W: Write>(out: &mut W, refusal: Refusal) -> io::Result<()> {
-    match refusal {
-        Refusal::BadPacket(fault) => {
-            out.write_all(b"refused 18 ")?;
-            show_fault(out, Fault::Packet(fault))
+// The refusal of a receive: a fault is told with its place.
+fn show_receive_refusal<W: Write>(out: &mut W, refusal: Refusal) -> io::Result<()> {
+    match refusal.fault() {
+        Some(fault) => {
+            let number = refusal.number();
+            write!(out, "refused {number} ")?;
+            show_fault(out, fault)
         }
-        Refusal::LogFull => {
-            out.write_all(b"refused 21 ")?;
-            show_fault(out, Fault::Log(LogFault::Full))
-        }
-        refusal => show_refusal(out, refusal),
+        None => show_refusal(out, refusal),
     }
 }
 
@@ -82,7 +79,7 @@ fn show_received<W: Write>(out: &mut W, received: Received) -> io::Result<()> {
     }
 }
 
-fn show_put<W: Write>(out: &mut W, letter: Option<Letter>) -> io::Result<()> {
+fn show_sent<W: Write>(out: &mut W, letter: Option<Letter>) -> io::Result<()> {
     match letter {
         Some(letter) => {
             let letter = letter_of(letter);

@@ -1,6 +1,6 @@
 //! What keeps a command from being done.
-use std::io;
 use std::alloc::AllocError;
+use std::io;
 use thiserror::Error;
 use wire::Refusal;
 

@@ -70,18 +70,20 @@ levels_by way how s t d n reports i l h j r k m =
     let e : d ≡ did (done (connected is s)) = connected_by way how s d i l h in
     let rs : GrantedRounds Step (rounds_needed is s) (connected is s) t = subst (λ x. GrantedRounds Step x (connected is s) t) j (subst (λ (x : Effect). GrantedRounds Step n x.after t) e r) in
     let step : Does (Connect is) s (Ok tt) (connected is s) = subst (λ x. Step s (Connect is) x) e (subst (λ x. Step s (Connect x) d) i h) in
-    let more : Leads (connected is s) (map round_with reports) t = subst (λ (x : Effect). Leads x.after (map round_with reports) t) e m in
-    (record {
-      long = l;
-      connects = step;
-      rounds = rs;
-      reports = reports;
-      one_each = k ∙ j;
-      keeps = keeps_together (keeps_one None (keeps_none s) step) (leads_keep more);
-      level = λ o v a e able.
-          subst (λ x. Able is x → GrantedRounds Step (rounds_needed is x) (connected is x) t → Level x.running.log t) e
-          (λ b q. catches_up o t v is a b q) able rs;
-    }, refl)
+    let more : Leads (connected is s) (map round_with reports) t = subst (λ (x : Effect). Leads x.after (map round_with reports) t) e m in (
+      record {
+        long = l;
+        connects = step;
+        rounds = rs;
+        reports = reports;
+        one_each = k ∙ j;
+        keeps = keeps_together (keeps_one None (keeps_none s) step) (leads_keep more);
+        level = λ o v a e able.
+            subst (λ x. Able is x → GrantedRounds Step (rounds_needed is x) (connected is x) t → Level x.running.log t) e
+            (λ b q. catches_up o t v is a b q) able rs;
+      },
+      refl,
+    )
 
 pub levels : (way : Way) (how : How) (s t : Pair) (d : Effect) (n : ℕ) → how ≡ how_of way → lent_short Round s ≡ false → Step s (Connect how) d → n ≡ rounds_needed (how_of way) s →
     GrantedRounds Step n d.after t → Levels (how_of way) s t

@@ -1,4 +1,5 @@
 pub mod Calls
+pub mod Copies
 pub mod Histories
 pub mod Slots
 pub mod Levels

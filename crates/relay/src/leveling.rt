@@ -36,7 +36,8 @@ impl Way {
 
     // How many rounds it takes: two more than the hub holds, less the number that the login asks for.
     pub(crate) fn rounds<G: Log, S: Log>(self, hub_log: &G, seat_log: &S) -> usize
-        ensures { result ≡ count (G.Log.view hub_log.now) + 2 - asked_number (how_of self) (S.Log.view seat_log.now) }
+        ensures { let asked = asked_number (how_of self) (S.Log.view seat_log.now) in
+            result ≡ count (G.Log.view hub_log.now) + 2 - asked }
     {
         let asked = match self {
             Way::Join => seat_log.count() + 1,
@@ -59,14 +60,12 @@ pub fn bring_level<G: Log, S: Log, U: SteadyLine, D: SteadyLine>(
     down: &mut D,
     buffers: &mut Buffers,
 ) -> Result<Option<Status>, Refusal>
-    ensures {
-        let log = G.Log.view hub_log.now in
+    ensures { let log = G.Log.view hub_log.now in
         let before = pair_of pair.old log (S.Log.view seat_log.old)
-            (U.Line.view up.old) (D.Line.view down.old) buffers.old in
+        (U.Line.view up.old) (D.Line.view down.old) buffers.old in
         let after = pair_of pair.new log (S.Log.view seat_log.new)
-            (U.Line.view up.new) (D.Line.view down.new) buffers.new in
-        BringsLevel (how_of way) before result after
-    }
+        (U.Line.view up.new) (D.Line.view down.new) buffers.new in
+        BringsLevel (how_of way) before result after }
 {
     if buffers.is_short() {
         return Err(Refusal::ShortBuffer);
@@ -100,14 +99,12 @@ fn go_rounds<G: Log, S: Log, U: SteadyLine, D: SteadyLine>(
 ) -> Result<(), Refusal>
     requires { any_short buffers.old ≡ false }
     ensures granted { result ≡ Ok tt }
-    ensures rounds {
-        let log = G.Log.view hub_log.now in
+    ensures rounds { let log = G.Log.view hub_log.now in
         let before = pair_of pair.old log (S.Log.view seat_log.old)
-            (U.Line.view up.old) (D.Line.view down.old) buffers.old in
+        (U.Line.view up.old) (D.Line.view down.old) buffers.old in
         let after = pair_of pair.new log (S.Log.view seat_log.new)
-            (U.Line.view up.new) (D.Line.view down.new) buffers.new in
-        GrantedRounds Step rounds before after
-    }
+        (U.Line.view up.new) (D.Line.view down.new) buffers.new in
+        GrantedRounds Step rounds before after }
 {
     for _ in 0..rounds {
         pair.round(hub_log, seat_log, up, down, buffers)?;

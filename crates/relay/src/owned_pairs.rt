@@ -32,13 +32,13 @@ pub struct OwnedPair<G: Log, S: Log, U: SteadyLine, D: SteadyLine> {
 
 impl<G: Log, S: Log, U: SteadyLine, D: SteadyLine> OwnedPair<G, S, U, D> {
     /// Sets a pair up of all its parts. Refuses as `Pair::set_up` does, and hands the parts back unchanged.
-    pub fn set_up(parts: Parts<G, S, U, D>) -> Result<OwnedPair<G, S, U, D>, Unmade<Parts<G, S, U, D>>>
-        ensures {
-            MatchResult result
+    pub fn set_up(
+        parts: Parts<G, S, U, D>,
+    ) -> Result<OwnedPair<G, S, U, D>, Unmade<Parts<G, S, U, D>>>
+        ensures { MatchResult result
             (λ made. let after = meaning_of G.Log.view S.Log.view U.Line.view D.Line.view made in
-                (set_up parts ≡ Ok after) × SetUp after)
-            (λ unmade. (set_up parts ≡ Err unmade.refusal) × (unmade.given ≡ parts))
-        }
+            (set_up parts ≡ Ok after) × SetUp after)
+            (λ unmade. (set_up parts ≡ Err unmade.refusal) × (unmade.given ≡ parts)) }
     {
         let Parts {
             mut hub_log,
@@ -80,11 +80,9 @@ impl<G: Log, S: Log, U: SteadyLine, D: SteadyLine> OwnedPair<G, S, U, D> {
 
     /// Performs a call: a step of the rules, after which the promises hold as before.
     pub fn perform(&mut self, call: Call<'_>) -> Answer
-        ensures {
-            let before = meaning_of G.Log.view S.Log.view U.Line.view D.Line.view self.old in
+        ensures { let before = meaning_of G.Log.view S.Log.view U.Line.view D.Line.view self.old in
             let after = meaning_of G.Log.view S.Log.view U.Line.view D.Line.view self.new in
-            Performs before (call_of call.entry) result after
-        }
+            Performs before (call_of call.entry) result after }
     {
         perform(
             &mut self.pair,
@@ -99,11 +97,9 @@ impl<G: Log, S: Log, U: SteadyLine, D: SteadyLine> OwnedPair<G, S, U, D> {
 
     /// Brings the seat level with the hub, as the function `bring_level` does.
     pub fn bring_level(&mut self, way: Way) -> Result<Option<Status>, Refusal>
-        ensures {
-            let before = meaning_of G.Log.view S.Log.view U.Line.view D.Line.view self.old in
+        ensures { let before = meaning_of G.Log.view S.Log.view U.Line.view D.Line.view self.old in
             let after = meaning_of G.Log.view S.Log.view U.Line.view D.Line.view self.new in
-            BringsLevel (how_of way) before result after
-        }
+            BringsLevel (how_of way) before result after }
     {
         bring_level(
             &mut self.pair,

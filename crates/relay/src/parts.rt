@@ -1,8 +1,12 @@
 //! All that a pair is set up of.
+ghost use Rattle.std.specs.Prelude.{IfOk};
+ghost use Rattle.relay.specs.Copies.{Copies};
+
 use account::Accounts;
 use line::{Line, SteadyLine};
 use message_log::Log;
-use pair::Buffers;
+use pair::{AccountTexts, Buffers};
+use std::alloc::{AllocError, Global};
 use std::marker::Model;
 
 /// The three texts by which the seat logs in, as they were given.
@@ -11,6 +15,19 @@ pub struct Credentials {
     pub user: Vec<u8>,
     pub computer: Vec<u8>,
     pub protocol: Vec<u8>,
+}
+
+impl Credentials {
+    /// A copy of these texts.
+    pub fn of(heap: Global, texts: AccountTexts<'_>) -> Result<Credentials, AllocError>
+        ensures { IfOk result (λ c. Copies texts.entry c) }
+    {
+        Ok(Credentials {
+            user: texts.user.to_vec(heap)?,
+            computer: texts.computer.to_vec(heap)?,
+            protocol: texts.protocol.to_vec(heap)?,
+        })
+    }
 }
 
 /// All that a pair is set up of.
@@ -35,12 +52,15 @@ impl<G: Log, S: Log, U: SteadyLine, D: SteadyLine> Model for Parts<G, S, U, D> {
 
     ghost Value = { Given.Parts };
 
-    ghost view = {
-        λ p. record {
-            hub_log = G.Log.view p.hub_log; seat_log = S.Log.view p.seat_log;
-            up = U.Line.view p.up; down = D.Line.view p.down; rows = p.accounts.rows;
-            user = p.seat.user.items; computer = p.seat.computer.items;
-            protocol = p.seat.protocol.items; buffers = p.buffers;
-        }
-    };
+    ghost view = { λ p. record {
+      hub_log = G.Log.view p.hub_log;
+      seat_log = S.Log.view p.seat_log;
+      up = U.Line.view p.up;
+      down = D.Line.view p.down;
+      rows = p.accounts.rows;
+      user = p.seat.user.items;
+      computer = p.seat.computer.items;
+      protocol = p.seat.protocol.items;
+      buffers = p.buffers;
+    } };
 }

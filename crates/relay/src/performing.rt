@@ -19,13 +19,11 @@ pub fn perform<G: Log, S: Log, U: SteadyLine, D: SteadyLine>(
     down: &mut D,
     buffers: &mut Buffers,
 ) -> Answer
-    ensures {
-        let before = pair_of pair.old (G.Log.view hub_log.old) (S.Log.view seat_log.old)
-            (U.Line.view up.old) (D.Line.view down.old) buffers.old in
+    ensures { let before = pair_of pair.old (G.Log.view hub_log.old) (S.Log.view seat_log.old)
+        (U.Line.view up.old) (D.Line.view down.old) buffers.old in
         let after = pair_of pair.new (G.Log.view hub_log.new) (S.Log.view seat_log.new)
-            (U.Line.view up.new) (D.Line.view down.new) buffers.new in
-        Performs before (call_of call.entry) result after
-    }
+        (U.Line.view up.new) (D.Line.view down.new) buffers.new in
+        Performs before (call_of call.entry) result after }
 {
     match call {
         Call::Connect(how) => Answer::Done(pair.connect(how, seat_log, up, down, buffers)),

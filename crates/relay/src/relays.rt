@@ -36,21 +36,17 @@ impl<G: Log, S: Log, U: SteadyLine, D: SteadyLine> Model for Relay<G, S, U, D> {
 
     ghost Value = { CallHistory };
 
-    ghost view = {
-        λ r. record {
-            first = meaning_of G.Log.view S.Log.view U.Line.view D.Line.view r.first.value;
-            calls = r.made.list;
-            pair = meaning_of G.Log.view S.Log.view U.Line.view D.Line.view r.owned;
-        }
-    };
+    ghost view = { λ r. record {
+      first = meaning_of G.Log.view S.Log.view U.Line.view D.Line.view r.first.value;
+      calls = r.made.list;
+      pair = meaning_of G.Log.view S.Log.view U.Line.view D.Line.view r.owned;
+    } };
 
-    ghost invariant = {
-        λ r. Happened (record {
-            first = meaning_of G.Log.view S.Log.view U.Line.view D.Line.view r.first.value;
-            calls = r.made.list;
-            pair = meaning_of G.Log.view S.Log.view U.Line.view D.Line.view r.owned;
-        })
-    };
+    ghost invariant = { λ r. Happened (record {
+      first = meaning_of G.Log.view S.Log.view U.Line.view D.Line.view r.first.value;
+      calls = r.made.list;
+      pair = meaning_of G.Log.view S.Log.view U.Line.view D.Line.view r.owned;
+    }) };
 }
 
 impl<G: Log, S: Log, U: SteadyLine, D: SteadyLine> Relay<G, S, U, D> {
@@ -124,9 +120,8 @@ impl<G: Log, S: Log, U: SteadyLine, D: SteadyLine> Relay<G, S, U, D> {
 
     /// The pair with its logs, lines and buffers, to be read.
     pub fn owned_pair(&self) -> &OwnedPair<G, S, U, D>
-        ensures {
-            meaning_of G.Log.view S.Log.view U.Line.view D.Line.view result.now ≡ self.now.pair
-        }
+        ensures { let pair = meaning_of G.Log.view S.Log.view U.Line.view D.Line.view result.now in
+            pair ≡ self.now.pair }
     {
         &self.owned
     }

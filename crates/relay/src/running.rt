@@ -36,13 +36,11 @@ pub fn run<G: Log, S: Log, U: SteadyLine, D: SteadyLine>(
     down: &mut D,
     buffers: &mut Buffers,
 )
-    ensures {
-        let before = pair_of pair.old (G.Log.view hub_log.old) (S.Log.view seat_log.old)
-            (U.Line.view up.old) (D.Line.view down.old) buffers.old in
+    ensures { let before = pair_of pair.old (G.Log.view hub_log.old) (S.Log.view seat_log.old)
+        (U.Line.view up.old) (D.Line.view down.old) buffers.old in
         let after = pair_of pair.new (G.Log.view hub_log.new) (S.Log.view seat_log.new)
-            (U.Line.view up.new) (D.Line.view down.new) buffers.new in
-        Runs before slots.old slots.new after
-    }
+        (U.Line.view up.new) (D.Line.view down.new) buffers.new in
+        Runs before slots.old slots.new after }
 {
     for slot in slots.iter_mut() {
         let answer = perform(pair, slot.call, hub_log, seat_log, up, down, buffers);

@@ -42,17 +42,17 @@ loop-init c = none
 
 pub returns-then-is_some : goal.returns-then-is_some
 returns-then-is_some c =
-    let told-some : is_some (refusal_in c.call.result) ≡ true = cc in
-    let told = denied c.call.result (tick_did c.loop.play.pair _ c.call.ensures.step) told-some in
-    let count = recounted c.call.result (Answer.Done (Err told.0)) c.loop.sums c.noted-answer.new.sums c.noted-answer.ensures.count told.1 in
-    rw (c.noted-answer.ensures.same ∙ told.1, count) (refused c.loop.invariant (rw told.1 at c.call.ensures))
+    let told-some : is_some (refusal_in c.perform.result) ≡ true = cc in
+    let told = denied c.perform.result (tick_did c.loop.pair.pair _ c.perform.ensures.step) told-some in
+    let count = recounted c.perform.result (Answer.Done (Err told.0)) c.loop.sums c.noted-answer.new.sums c.noted-answer.ensures.count told.1 in
+    rw (c.noted-answer.ensures.same ∙ told.1, count) (refused c.loop.invariant (rw told.1 at c.perform.ensures))
 
 pub loop-preserved : goal.loop-preserved
 loop-preserved c =
-    let told-none : is_some (refusal_in c.call.result) ≡ false = cc in
-    let told = granted c.call.result (tick_did c.loop.play.pair _ c.call.ensures.step) told-none in
-    let count = recounted c.call.result (Answer.Done (Ok tt)) c.loop.sums c.noted-answer.new.sums c.noted-answer.ensures.count told in
-    rw count (one_more c.loop.invariant (rw told at c.call.ensures))
+    let told-none : is_some (refusal_in c.perform.result) ≡ false = cc in
+    let told = granted c.perform.result (tick_did c.loop.pair.pair _ c.perform.ensures.step) told-none in
+    let count = recounted c.perform.result (Answer.Done (Ok tt)) c.loop.sums c.noted-answer.new.sums c.noted-answer.ensures.count told in
+    rw count (one_more c.loop.invariant (rw told at c.perform.ensures))
 
 pub returns : goal.returns
 returns c = all (let end : c.loop.counter ≡ c.args.count = omega arith in rw end at c.loop.invariant)

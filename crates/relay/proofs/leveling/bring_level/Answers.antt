@@ -21,8 +21,7 @@ returns g c =
     let held = g.S.Log.view c.go_rounds.new.seat_log in
     let up = g.U.Line.view c.go_rounds.new.up in
     let down = g.D.Line.view c.go_rounds.new.down in
-    let lent = c.go_rounds.new.buffers in
-    (
+    let lent = c.go_rounds.new.buffers in (
       levels c.args.way c.how.result _ _ _ _ c.how.ensures (sym c.is_short.ensures ∙ c.if-is_short.false) (c.connect.ensures log) c.rounds-rounds.ensures c.go_rounds.ensures.rounds,
       rw (c.login_answer.ensures, c.seat_phase.ensures log held up down lent, c.status.ensures log held up down lent) refl,
     )

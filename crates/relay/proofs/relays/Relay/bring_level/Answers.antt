@@ -25,8 +25,7 @@ returns g c =
     let log = g.G.Log.view i.hub_log in
     let held = g.S.Log.view i.seat_log in
     let up = g.U.Line.view i.up in
-    let down = g.D.Line.view i.down in
-    (
+    let down = g.D.Line.view i.down in (
       levels_and_notes c.args.way c.how.result h c.perform.new.self c.go_rounds.new.self c.perform.result c.rounds-rounds.result c.promises.ensures.happened long c.how.ensures as_many c.perform.ensures c.go_rounds.ensures,
       rw (c.login_answer.ensures, c.seat_phase.ensures log held up down i.buffers, c.status.ensures log held up down i.buffers) (ap (λ (x : CallHistory). login_answer x.pair.seat) c.self-2.view_is),
     )

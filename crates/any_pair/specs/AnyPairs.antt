@@ -1,8 +1,8 @@
--- What a play means.
+-- What a pair of any kinds means.
 use Rattle.std.specs.Prelude.{ℕ, List}
 use Rattle.rules.specs.State.{Pair}
 
-pub record Played : Type 0 where
+pub record PairWithCounts : Type 0 where
   -- the pair with all that its calls are lent
   pub pair : Pair
   -- how many packets were put on each line, by letter
