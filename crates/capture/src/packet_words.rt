@@ -116,8 +116,8 @@ fn show_message<W: Write>(heap: Global, out: &mut W, message: &[u8]) -> io::Resu
     Ok(())
 }
 
-// A row of bytes below the column of names. Each program prints its rows with a margin of its own: `dump` makes rows
-// and prints nothing.
+// A row of bytes below the column of names. Each program prints its rows with a margin of its own: the module `rows`
+// prints nothing.
 fn show_row<W: Write>(heap: Global, out: &mut W, bytes: &[u8]) -> io::Result<()> {
     write!(out, "{:>22}", "")?;
     out.write_all(&row(heap, bytes)?)?;

@@ -17,10 +17,10 @@ pub struct Printer<W> {
 impl<W: Write> Printer<W> {
     /// Shows one message: its number, where its record begins, its length, and its bytes.
     fn show_message(&mut self, journal: &Journal, n: usize) -> io::Result<()> {
-        match (journal.place(n), journal.message(n)) {
-            (Ok(place), Ok(message)) => {
+        match (journal.offset(n), journal.message(n)) {
+            (Ok(offset), Ok(message)) => {
                 let len = message.len();
-                writeln!(self.out, "  message {n} at {place}, {len} bytes")?;
+                writeln!(self.out, "  message {n} at {offset}, {len} bytes")?;
                 self.show_rows(message)
             }
             (Err(refusal), _) | (_, Err(refusal)) => {
@@ -30,7 +30,7 @@ impl<W: Write> Printer<W> {
     }
 
     /// Shows the bytes of a message.
-    // Printed here and not by `dump`, which makes rows and has no output: three lines, with a margin of its own.
+    // Printed here, with a margin of its own: `capture::rows` makes rows and has no output.
     fn show_rows(&mut self, message: &[u8]) -> io::Result<()> {
         for bytes in message.chunks(ROW) {
             self.out.write_all(b"    ")?;

@@ -1,5 +1,5 @@
 -- One record at the front of some bytes: read after it was written, and written again after it was read.
-use Rattle.std.proofs.Common.{◌≡◌, ℕ, ◌+◌, ◌*◌, ◌/◌, ◌%◌, ◌<◌, ◌≤◌, List, [], ◌∷◌, ◌++◌, length, get_or, take, drop, Ok, Err, Result, sym, refl, ap, ◌∙◌, inl, inr, arith, rules}
+use Rattle.std.proofs.Common.{◌≡◌, ℕ, ◌+◌, ◌/◌, ◌%◌, ◌<◌, ◌≤◌, List, [], ◌∷◌, ◌++◌, length, get_or, take, drop, Ok, Err, Result, sym, refl, ap, ◌∙◌, inl, inr, arith, rules}
 use Rattle.std.proofs.lemmas.List.{take_at, take-append-drop, length-append, length-take-le, drop-drop}
 use Rattle.std.proofs.lemmas.Bool.{cond-true, cond-false, le-ltb, lt-ltb, ne_eqb, cases_lt}
 use Rattle.wire.specs.Limits.{message_limit}
@@ -25,7 +25,7 @@ framed_cut x y lo hi tail held h =
     ∙ cond-true _ _ _ (lt-ltb (length (x ∷ y ∷ lo ∷ hi ∷ tail)) (4 + (number (lo ∷ hi ∷ []))) (omega arith))
 
 -- a length in two bytes
-length_back : (n : ℕ) → n < 65536 → number (little 2 n) ≡ n
+pub length_back : (n : ℕ) → n < 65536 → number (little 2 n) ≡ n
 length_back n h = omega arith
 
 length_forth : (lo hi : ℕ) → lo < 256 → hi < 256 → ((number (lo ∷ hi ∷ [])) % 256 ≡ lo) × ((number (lo ∷ hi ∷ [])) / 256 % 256 ≡ hi)

@@ -1,3 +1,4 @@
+pub mod Longer
 pub mod Laying
 pub mod Forms
 pub mod Framed

@@ -1,12 +1,12 @@
 //! The journal itself.
-ghost use Rattle.std.specs.Prelude.{◌≡◌};
-ghost use Rattle.logs.specs.Format.{session_record};
-ghost use Rattle.logs.specs.Layout.{Formed, Indexed};
+ghost use Rattle.packed_messages.specs.Packed.{Edges};
+ghost use Rattle.packed_messages.specs.Shown.{packed_of};
+ghost use Rattle.logs.specs.Layout.{base, gap, walked, Slotted, Formed, Indexes};
 
 pub mod entries;
+mod heads;
 pub mod opening;
 
-use crate::records::Mark;
 use message_log::SIZE_LIMIT;
 use packed_messages::PackedMessages;
 
@@ -22,15 +22,12 @@ const RECORD_HEAD: usize = 4;
 /// A log kept as records in one run of bytes.
 #[derive(Drop)]
 pub struct Journal {
-    parts: PackedMessages<JOURNAL_LEAST, RECORD_HEAD>,
-    ghost indexed: { Indexed parts },
-    ghost form: { Formed parts },
-}
-
-/// The record of a session.
-fn session_record(session: u8) -> [u8; JOURNAL_LEAST]
-    ensures { result ≡ session_record session }
-{
-    let [first, second, low, high] = Mark::Session.head(1);
-    [first, second, low, high, session]
+    packed: PackedMessages<JOURNAL_LEAST, RECORD_HEAD>,
+    // Where the first records end, as far as there was memory to note it. It makes reading fast, and is no part of what
+    // the journal means: behind it, reading goes from record to record.
+    index: Vec<u32>,
+    ghost slotted: { Slotted (packed_of packed) },
+    ghost edges: { Edges base gap (packed_of packed) (walked (packed_of packed).memory) },
+    ghost form: { Formed (packed_of packed) },
+    ghost indexed: { Indexes (packed_of packed).memory index.items (packed_of packed).count },
 }

@@ -39,14 +39,14 @@ taken_parts pool at gap (suc n) r w =
     omega (arith, before, more, long, step)
 
 -- a part that lies below u is the same in a pool that agrees below u
-between_below : (pool pool' : List ℕ) (u a e : ℕ) → e ≤ u → take u pool' ≡ take u pool → between a e pool' ≡ between a e pool
+pub between_below : (pool pool' : List ℕ) (u a e : ℕ) → e ≤ u → take u pool' ≡ take u pool → between a e pool' ≡ between a e pool
 between_below pool pool' u a e h same =
     between_is pool' a e
     ∙ ap (drop a) (sym (take-take e u pool' h) ∙ ap (take e) same ∙ take-take e u pool h)
     ∙ sym (between_is pool a e)
 
 -- parts that agree one by one are the same list
-parts_by : (f g : ℕ → List ℕ) (n : ℕ) → ((k : ℕ) → k < n → f k ≡ g k) → map f (range_with_len 0 n) ≡ map g (range_with_len 0 n)
+pub parts_by : (f g : ℕ → List ℕ) (n : ℕ) → ((k : ℕ) → k < n → f k ≡ g k) → map f (range_with_len 0 n) ≡ map g (range_with_len 0 n)
 parts_by f g zero h = refl
 parts_by f g (suc n) h =
     rw (add-one) at (map-range_with_len_more f 0 n n (omega arith))

@@ -1,3 +1,3 @@
 pub mod Bytes
 pub mod Packed
-pub mod Kept
+pub mod Shown

@@ -1,112 +1,77 @@
 //! Making and opening a journal.
-ghost use Rattle.std.specs.Prelude.{◌≡◌, ℕ, ◌+◌, ◌≤◌, true, List, [], Ok, take, vec_len, vec_capacity, MatchResult};
-ghost use Rattle.std.specs.List.{between};
+ghost use Rattle.std.specs.Prelude.{◌≡◌, ℕ, ◌≤◌, true, List, [], length, take, vec_len, IsOkAnd, MatchResult};
 ghost use Rattle.wire.specs.declared.refusals.Refusal.TheVariants as R;
-ghost use Rattle.message_log.specs.Meaning.{added};
-ghost use Rattle.message_log.specs.Calls.{takes};
+ghost use Rattle.wire.specs.Making.{Makes};
+ghost use Rattle.message_log.specs.Meaning.{size_limit};
 ghost use Rattle.logs.specs.Format.{saved};
-ghost use Rattle.packed_messages.specs.Kept.{kept, used as end_of};
-ghost use Rattle.logs.specs.Layout.{base, gap, makes, places_of, journal, Formed, Indexed};
-ghost use Rattle.logs.specs.Opening.{Savable, Broken, Unmakable, Unopened, Opened, opens};
+ghost use Rattle.logs.specs.Layout.{makes, journal};
+ghost use Rattle.logs.specs.Opening.{Savable, Broken, Scanned, Unopened, Opened, opens};
 
-use super::{JOURNAL_LEAST, JOURNAL_LIMIT, Journal, RECORD_HEAD, session_record};
+use super::heads::{index, note, session_record, slots_in};
+use super::{JOURNAL_LEAST, JOURNAL_LIMIT, Journal, RECORD_HEAD};
 use crate::reader::{read_message, read_session};
 use message_log::Log;
 use packed_messages::PackedMessages;
 use std::alloc::Global;
-use wire::{Refusal, Unmade, allow, lay};
+use wire::{Refusal, Unmade, allow};
 
-/// An index with room for the messages that a journal of so many bytes can hold.
-fn index(heap: Global, len: usize) -> Result<Vec<u32>, Refusal>
+/// What the records in some bytes hold, and an index of the first of them.
+#[derive(Drop)]
+struct Scan {
+    session: u8,
+    count: usize,
+    index: Vec<u32>,
+}
+
+/// Reads the records in these bytes, and notes in an empty index where they end.
+fn read_records(bytes: &[u8], index: Vec<u32>) -> Result<Scan, Refusal>
+    requires empty { index.items ≡ [] }
+    requires small { length bytes.now ≤ size_limit }
     ensures { MatchResult result
-        (λ v. (makes len ≡ true) × (v.items ≡ []) × (vec_capacity v ≡ places_of len))
-        (λ e. Unmakable len e) }
+        (λ s. Scanned bytes.now s.session s.count s.index.items)
+        (λ e. (place : ℕ) × (e ≡ R.BrokenLog place) × Broken bytes.now place) }
 {
-    if len < JOURNAL_LEAST || len > JOURNAL_LIMIT {
-        return Err(Refusal::SizeOutOfRange);
-    }
-    Ok(Vec::with_capacity(heap, (len - JOURNAL_LEAST) / RECORD_HEAD)?)
-}
-
-/// This memory with an empty index beside it, and no session.
-fn with_index(
-    heap: Global,
-    memory: Vec<u8>,
-) -> Result<PackedMessages<JOURNAL_LEAST, RECORD_HEAD>, Unmade<Vec<u8>>>
-    ensures { let allowed = makes (vec_len memory) ≡ true in
-        MatchResult result
-        (λ p. (p.memory ≡ memory) × allowed × Indexed p × (p.ends.items ≡ []) × (p.session ≡ 0))
-        (λ u. (u.given ≡ memory) × Unmakable (vec_len memory) u.refusal) }
-{
-    // No `map_err`: both arms hand the memory on, and a closure would have taken it.
-    match index(heap, memory.len()) {
-        Ok(ends) => Ok(PackedMessages {
-            memory,
-            places: ends.capacity(),
-            ends,
-            session: 0,
-        }),
-        Err(refusal) => Err(Unmade {
-            refusal,
-            given: memory,
-        }),
-    }
-}
-
-/// Notes that the record at `at`, behind the last message, has a body of so many bytes, and tells where it ends. It was
-/// read, so it fits, and is not judged again as a message that is appended.
-fn note(parts: &mut PackedMessages<JOURNAL_LEAST, RECORD_HEAD>, at: usize, length: usize) -> usize
-    requires behind { at ≡ end_of base gap parts.old }
-    requires fits { takes (kept base gap parts.old) length ≡ Ok tt }
-    ensures end { result ≡ at + gap + length }
-    ensures used { end_of base gap parts.new ≡ result }
-    ensures after { let start = end_of base gap parts.old + gap in
-        let message = between start (start + length) parts.old.memory.items in
-        kept base gap parts.new ≡ added (kept base gap parts.old) message }
-    ensures memory { parts.new.memory ≡ parts.old.memory }
-{
-    let end = at + RECORD_HEAD + length;
-    parts.ends.push_reserved(end as u32);
-    end
-}
-
-/// Reads the records in the first `used` bytes and takes in what they hold.
-fn walk(parts: &mut PackedMessages<JOURNAL_LEAST, RECORD_HEAD>, used: usize) -> Result<(), Refusal>
-    requires within { used ≤ vec_len parts.old.memory }
-    requires indexed { Indexed parts.old }
-    requires empty { parts.old.ends.items ≡ [] }
-    ensures memory { parts.new.memory ≡ parts.old.memory }
-    ensures cases { let bytes = take used parts.old.memory.items in
-        MatchResult result
-        (λ _. Indexed parts.new × Formed parts.new × (end_of base gap parts.new ≡ used))
-        (λ e. (place : ℕ) × (e ≡ R.BrokenLog place) × Broken bytes place) }
-{
-    let Ok(session) = read_session(&parts.memory[..used]) else {
+    let Ok(session) = read_session(bytes) else {
         return Err(Refusal::BrokenLog(0));
     };
-    parts.session = session;
+    let mut index = index;
+    let mut count = 0;
     let mut at = JOURNAL_LEAST;
-    while at < used {
-        let Ok(message) = read_message(&parts.memory[at..used], session) else {
+    while at < bytes.len() {
+        let Ok(message) = read_message(&bytes[at..], session) else {
             return Err(Refusal::BrokenLog(at));
         };
-        let length = message.len();
-        at = note(parts, at, length);
+        at += RECORD_HEAD + message.len();
+        note(&mut index, count, at);
+        count += 1;
     }
-    Ok(())
+    Ok(Scan {
+        session,
+        count,
+        index,
+    })
+}
+
+/// Whether memory of so many bytes can be a journal of which so many are in use.
+fn can_open(len: usize, used: usize) -> bool
+    ensures { result ≡ opens len used }
+{
+    JOURNAL_LEAST <= len && len <= JOURNAL_LIMIT && used <= len
 }
 
 impl Journal {
     /// An empty journal without a session in this memory.
     pub fn new(heap: Global, memory: Vec<u8>) -> Result<Journal, Unmade<Vec<u8>>>
         ensures { let empty = journal (vec_len memory) 0 [] in
-            MatchResult result
-            (λ j. (makes (vec_len memory) ≡ true) × (⟦<Journal as Log>⟧.view j ≡ empty))
-            (λ u. (u.given ≡ memory) × Unmakable (vec_len memory) u.refusal) }
+            Makes (makes (vec_len memory) ≡ true) (λ j. ⟦<Journal as Log>⟧.view j ≡ empty) memory result }
     {
-        let mut parts = with_index(heap, memory)?;
-        lay(&mut parts.memory, 0, &session_record(0));
-        Ok(Journal { parts })
+        let slots = slots_in(memory.len());
+        let mut packed = PackedMessages::new(memory, JOURNAL_LEAST, 0, slots, 0)?;
+        packed.lay_front(session_record(0));
+        Ok(Journal {
+            packed,
+            index: index(heap, slots),
+        })
     }
 
     /// The journal that the first `used` bytes of this memory hold.
@@ -116,18 +81,20 @@ impl Journal {
             (λ u. (u.given ≡ memory) × Unopened memory.items used u.refusal) }
         ensures back { (s : ℕ) (ms : List (List ℕ)) →
             Savable s ms → opens (vec_len memory) used ≡ true → take used memory.items ≡ saved s ms →
-            let log = journal (vec_len memory) s ms in
-            MatchResult result (λ j. ⟦<Journal as Log>⟧.view j ≡ log) (λ u. u.refusal ≡ R.OutOfMemory) }
+            IsOkAnd result (λ j. ⟦<Journal as Log>⟧.view j ≡ journal (vec_len memory) s ms) }
     {
+        let len = memory.len();
         // Memory and how much of it is used: a journal goes on in memory that is longer than what was saved.
-        let given = allow(used <= memory.len(), memory)?;
-        let mut parts = with_index(heap, given)?;
-        // No `map_err`, as above: both arms take the parts.
-        match walk(&mut parts, used) {
-            Ok(()) => Ok(Journal { parts }),
+        let memory = allow(can_open(len, used), memory)?;
+        let slots = slots_in(len);
+        match read_records(&memory[..used], index(heap, slots)) {
+            Ok(scan) => Ok(Journal {
+                packed: PackedMessages::new(memory, used, scan.count, slots, scan.session)?,
+                index: scan.index,
+            }),
             Err(refusal) => Err(Unmade {
                 refusal,
-                given: parts.memory,
+                given: memory,
             }),
         }
     }

@@ -1,24 +1,68 @@
-use Rattle.std.proofs.Common.{◌+◌, ◌++◌, length, ap, ◌∙◌, arith}
-use Rattle.wire.specs.Overlay.{laid}
-use Rattle.wire.proofs.Laid.{take_laid_end}
-use Rattle.message_log.specs.Meaning.{added}
-use Rattle.packed_messages.specs.Packed.{edge, parts}
-use Rattle.packed_messages.specs.Kept.{used, kept}
-use Rattle.packed_messages.proofs.Keeping.{within_kept}
+use Rattle.std.proofs.Common.{◌≡◌, ◌++◌, length, sym, ap, subst, ◌∙◌, rules, arith}
+use Rattle.packed_messages.specs.Packed.{Packed, Edges, extended}
+use Rattle.packed_messages.specs.Shown.{packed_of}
+use Rattle.packed_messages.proofs.Keeping.{in_range, judged_kept}
 use Rattle.logs.specs.Format.{message_record}
-use Rattle.logs.specs.Layout.{base, gap}
-use Rattle.logs.proofs.Laying.{formed_settled, saved_more}
+use Rattle.logs.specs.Layout.{base, gap, walked, recorded, Slotted, Formed, Indexes, Notes}
+use Rattle.logs.proofs.Laying.{appended_edges, appended_slots, appended_form, appended_index, appended_meaning}
 use Rattle.logs.proofs.journals.entries.JournalLog.append.Goals as goal
 
-pub invariant_of-self-clause-form : goal.invariant_of-self-clause-form
-invariant_of-self-clause-form c =
-    let p = c.args.self.now.parts in
+pub returns-in_err-append-clause-value : goal.returns-in_err-append-clause-value
+returns-in_err-append-clause-value c =
+    let s = c.args.self.now in
+    let value = c.append.ensures.value ∙ judged_kept base gap (packed_of s.packed) (walked s.packed.memory.items) (in_range s.packed) s.edges (length c.args.message.now) in
+    search rules
+
+pub returns-clause-value : goal.returns-clause-value
+returns-clause-value c =
+    let s = c.args.self.now in
+    let value = c.append.ensures.value ∙ judged_kept base gap (packed_of s.packed) (walked s.packed.memory.items) (in_range s.packed) s.edges (length c.args.message.now) in
+    search rules
+
+pub invariant_of-self-2-clause-slotted : goal.invariant_of-self-2-clause-slotted
+invariant_of-self-2-clause-slotted c =
+    let s = c.args.self.now in
+    let v = packed_of s.packed in
     let m = c.args.message.now in
-    let mem = p.memory.items in
-    let u = used base gap p in
-    let e = u + gap + length m in
-    let ms = parts mem (edge base p.ends.items) gap (length p.ends.items) in
-    let within = within_kept base gap p in
-    let record_is = ap (λ t. laid mem u (t ++ m)) c.head.ensures in
-    let form = take_laid_end mem u (message_record m) e within (omega arith) ∙ (ap (λ t. t ++ message_record m) c.args.self.now.form ∙ saved_more p.session ms m) in
-    formed_settled c.append.result p c.append.new.self (added (kept base gap p) m) (laid mem u (message_record m)) e c.append.ensures.after (rw record_is at c.append.ensures.memory) c.append.ensures.used c.args.self.now.form (λ ok. form)
+    let grew : packed_of c.append.new.self ≡ extended (message_record m) v = c.in_ok-append.ensures.after ∙ ap (λ t. extended (t ++ m) v) c.head.ensures in
+    let ok = sym c.in_ok-append.ensures.value in
+    subst Slotted (sym grew) (appended_slots v m (in_range s.packed) s.edges ok s.slotted)
+
+pub invariant_of-self-2-clause-edges : goal.invariant_of-self-2-clause-edges
+invariant_of-self-2-clause-edges c =
+    let s = c.args.self.now in
+    let v = packed_of s.packed in
+    let m = c.args.message.now in
+    let grew : packed_of c.append.new.self ≡ extended (message_record m) v = c.in_ok-append.ensures.after ∙ ap (λ t. extended (t ++ m) v) c.head.ensures in
+    let ok = sym c.in_ok-append.ensures.value in
+    subst (λ (x : Packed). Edges base gap x (walked x.memory)) (sym grew) (appended_edges v m (in_range s.packed) s.edges ok)
+
+pub invariant_of-self-2-clause-form : goal.invariant_of-self-2-clause-form
+invariant_of-self-2-clause-form c =
+    let s = c.args.self.now in
+    let v = packed_of s.packed in
+    let m = c.args.message.now in
+    let grew : packed_of c.append.new.self ≡ extended (message_record m) v = c.in_ok-append.ensures.after ∙ ap (λ t. extended (t ++ m) v) c.head.ensures in
+    let ok = sym c.in_ok-append.ensures.value in
+    subst Formed (sym grew) (appended_form v m (in_range s.packed) s.edges ok s.form)
+
+pub invariant_of-self-2-clause-indexed : goal.invariant_of-self-2-clause-indexed
+invariant_of-self-2-clause-indexed c =
+    let s = c.args.self.now in
+    let v = packed_of s.packed in
+    let m = c.args.message.now in
+    let grew : packed_of c.append.new.self ≡ extended (message_record m) v = c.in_ok-append.ensures.after ∙ ap (λ t. extended (t ++ m) v) c.head.ensures in
+    let ok = sym c.in_ok-append.ensures.value in
+    let end = c.used.ensures ∙ ap (λ (x : Packed). x.used) grew in
+    let noted = subst (λ n. Notes s.index.items n c.used.result c.note.new.index.items) c.count-before.ensures c.note.ensures in
+    subst (λ (x : Packed). Indexes x.memory c.note.new.index.items x.count) (sym grew)
+    (appended_index v m (in_range s.packed) s.edges ok s.index.items c.note.new.index.items c.used.result s.indexed (omega (arith, end)) noted)
+
+pub returns-clause-after : goal.returns-clause-after
+returns-clause-after c =
+    let s = c.args.self.now in
+    let v = packed_of s.packed in
+    let m = c.args.message.now in
+    let grew : packed_of c.append.new.self ≡ extended (message_record m) v = c.in_ok-append.ensures.after ∙ ap (λ t. extended (t ++ m) v) c.head.ensures in
+    let ok = sym c.in_ok-append.ensures.value in
+    ap recorded grew ∙ appended_meaning v m (in_range s.packed) s.edges ok
