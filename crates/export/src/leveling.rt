@@ -2,7 +2,7 @@
 use crate::messages::stamp;
 use crate::stages::{Stage, ring};
 use crate::sums::{SEED, mix, mix_bytes};
-use line::SteadyLine;
+use line::Line;
 use lines::Paced;
 use message_log::{Log, SIZE_LIMIT};
 use std::alloc::Global;
@@ -30,7 +30,7 @@ pub fn levels_paced(
 }
 
 // A hub that publishes until its log is full, and a seat that is brought level so many times.
-fn leveled<L: SteadyLine + Drop>(
+fn leveled<L: Line + Drop>(
     heap: Global,
     stage: Stage<L>,
     length: usize,
@@ -51,7 +51,7 @@ fn leveled<L: SteadyLine + Drop>(
 }
 
 // The hub publishes so many messages, or as many as its log takes.
-fn publish<L: SteadyLine + Drop>(stage: &mut Stage<L>, message: &mut [u8], count: usize) {
+fn publish<L: Line + Drop>(stage: &mut Stage<L>, message: &mut [u8], count: usize) {
     for number in 0..count {
         stamp(message, number as u64);
         if stage.publish(message).is_err() {
@@ -82,7 +82,7 @@ pub fn lives(
 }
 
 // One message, from the hub to the seat.
-fn lived<L: SteadyLine + Drop>(
+fn lived<L: Line + Drop>(
     sum: u64,
     stage: &mut Stage<L>,
     message: &[u8],

@@ -5,7 +5,7 @@ ghost use Rattle.relay.specs.Levels.{how_of, Brings};
 ghost use Rattle.relay.specs.declared.leveling.Way.TheVariants.{Anew};
 
 use account::Accounts;
-use line::{Line, SteadyLine};
+use line::Line;
 use lines::Ring;
 use logs::Journal;
 use message_log::Log;
@@ -21,7 +21,7 @@ const LINE_SIZE: usize = 65_536;
 
 /// A pair, and all that its calls are lent: two journals, two lines of a kind, and the buffers.
 #[derive(Drop)]
-pub struct Stage<L: SteadyLine> {
+pub struct Stage<L: Line> {
     pub pair: Pair,
     pub hub_log: Journal,
     pub seat_log: Journal,
@@ -33,7 +33,7 @@ pub struct Stage<L: SteadyLine> {
 }
 
 /// A stage means what its pair means with all that it is lent.
-impl<L: SteadyLine> Model for Stage<L> {
+impl<L: Line> Model for Stage<L> {
     ghost use Rattle.rules.specs.State as State;
     ghost use Rattle.pair.specs.Meanings.{pair_of};
 
@@ -42,7 +42,7 @@ impl<L: SteadyLine> Model for Stage<L> {
     ghost view = { λ s. pair_of s.pair (⟦<Journal as Log>⟧.view s.hub_log) (⟦<Journal as Log>⟧.view s.seat_log) (L.Line.view s.up) (L.Line.view s.down) s.hub_frame.items s.seat_frame.items s.out.items };
 }
 
-impl<L: SteadyLine + Drop> Stage<L> {
+impl<L: Line + Drop> Stage<L> {
     /// A pair over these lines, with two empty journals of so many bytes.
     pub fn new(heap: Global, size: usize, up: L, down: L) -> Result<Stage<L>, Refusal> {
         let mut hub_log = journal(heap, size)?;

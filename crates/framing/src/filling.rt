@@ -4,14 +4,14 @@ ghost use Rattle.std.specs.Prelude.{◌≡◌, ◌+◌, ◌-◌, ◌≤◌, leng
 ghost use Rattle.rules.specs.Frames.{lack};
 ghost use Rattle.framing.specs.Filling.{Filled, wanted};
 
-use line::SteadyLine;
+use line::Line;
 use wire::PACKET_LIMIT;
 
 /// Takes once from the line, at most what the frame still lacks, and says how many bytes came. The frame is the
 /// first `held` bytes of its buffer, and what comes is laid behind it. Where the buffer could not hold the longest
 /// packet, or more than that is held, nothing is taken.
 #[inline(always)]
-pub fn fill<L: SteadyLine>(line: &mut L, frame: &mut [u8], held: usize) -> usize
+pub fn fill<L: Line>(line: &mut L, frame: &mut [u8], held: usize) -> usize
     ensures { Filled (L.Line.view line.old) frame.old held (wanted held frame.old) result (L.Line.view line.new) frame.new }
 {
     if frame.len() < PACKET_LIMIT {
@@ -40,7 +40,7 @@ fn lacking(frame: &[u8]) -> usize
 
 // Takes into the places from `from` to `end`.
 #[inline(always)]
-fn take_at<L: SteadyLine>(line: &mut L, frame: &mut [u8], from: usize, end: usize) -> usize
+fn take_at<L: Line>(line: &mut L, frame: &mut [u8], from: usize, end: usize) -> usize
     requires { (from ≤ end) × (end ≤ length frame.old) }
     ensures { Filled (L.Line.view line.old) frame.old from (end - from) result (L.Line.view line.new) frame.new }
 {

@@ -8,7 +8,7 @@ ghost use Rattle.promises.specs.Runs.{GrantedRounds};
 ghost use Rattle.pair.specs.Meanings.{pair_of};
 ghost use Rattle.relay.specs.Levels.{how_of, Brings};
 
-use line::SteadyLine;
+use line::Line;
 use message_log::Log;
 use pair::Pair;
 use rules::How;
@@ -49,7 +49,7 @@ impl Way {
 /// Brings a seat level with the hub: connects by join or anew, and goes as many rounds as that takes. If the login is
 /// accepted and the seat's log has room and places for what it lacks, it is the hub's then. Refuses by `ShortBuffer`,
 /// with nothing changed.
-pub fn bring_level<G: Log, S: Log, U: SteadyLine, D: SteadyLine>(
+pub fn bring_level<G: Log, S: Log, U: Line, D: Line>(
     pair: &mut Pair,
     way: Way,
     hub_log: &G,
@@ -79,7 +79,7 @@ pub fn bring_level<G: Log, S: Log, U: SteadyLine, D: SteadyLine>(
 }
 
 // Goes so many rounds.
-fn go<G: Log, S: Log, U: SteadyLine, D: SteadyLine>(
+fn go<G: Log, S: Log, U: Line, D: Line>(
     pair: &mut Pair,
     rounds: usize,
     hub_log: &G,

@@ -6,7 +6,7 @@ ghost use Rattle.relay.specs.Histories.{Keeps};
 
 use crate::commands::Call;
 use crate::performing::perform;
-use line::SteadyLine;
+use line::Line;
 use message_log::Log;
 use pair::Pair;
 use rules::Answer;
@@ -14,7 +14,7 @@ use std::alloc::{AllocError, Global};
 
 /// Performs calls one after the other, granted or refused, and gives their answers in this order. Fails, with no call
 /// made, if there is no memory for the answers.
-pub fn run<G: Log, S: Log, U: SteadyLine, D: SteadyLine>(
+pub fn run<G: Log, S: Log, U: Line, D: Line>(
     heap: Global,
     pair: &mut Pair,
     calls: &[Call],

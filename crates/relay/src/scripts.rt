@@ -8,7 +8,7 @@ ghost use Rattle.relay.specs.Scripts.{Scripted, Unscripted};
 use crate::commands::Call;
 use crate::running::run;
 use account::Accounts;
-use line::SteadyLine;
+use line::Line;
 use message_log::Log;
 use pair::Pair;
 use rules::Answer;
@@ -24,7 +24,7 @@ pub struct Played {
 
 /// Sets a pair up, and performs calls on it, granted or refused. The three promises hold of it then. Refuses as set-up
 /// does, with nothing changed, and by `OutOfMemory`, with no call made.
-pub fn play<G: Log, S: Log, U: SteadyLine, D: SteadyLine>(
+pub fn play<G: Log, S: Log, U: Line, D: Line>(
     heap: Global,
     accounts: Accounts,
     user: &[u8],
