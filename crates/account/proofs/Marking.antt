@@ -1,10 +1,10 @@
 -- Rows that are marked, and a row that joins.
-use Rattle.std.proofs.Common.{◌≡◌, ℕ, zero, suc, ◌+◌, ◌<◌, ◌≤◌, Bool, false, cond, ◌≢◌, List, [], ◌∷◌, length, take, drop, set, Some, None, sym, refl, ap, ◌∙◌, inl, inr, arith, length-drop}
-use Rattle.std.proofs.lemmas.List.{get_or-take, get_or-set_same, get_or-set_other, length-set, length-take-le}
+use Rattle.std.proofs.Common.{◌≡◌, ℕ, zero, suc, ◌+◌, ◌-◌, ◌<◌, ◌≤◌, Bool, false, cond, ◌≢◌, List, [], ◌∷◌, length, take, drop, set, replicate, Some, None, sym, refl, ap, ◌∙◌, inl, inr, arith, length-drop}
+use Rattle.std.proofs.lemmas.List.{get_or-take, get_or-set_same, get_or-set_other, length-set, length-take-le, drop-drop}
 use Rattle.std.proofs.lemmas.Bool.{cases_lt}
 use Rattle.account.specs.declared.rows.Row.{Row}
 use Rattle.account.specs.Rows.{matches, found, found_from, row_at, no_row, with_mark, marking}
-use Rattle.account.specs.Table.{Whole, in_use, Single}
+use Rattle.account.specs.Table.{Whole, blank, in_use, Single}
 use Rattle.account.specs.Laws.{MarksOneRow, FoundAsBefore}
 use Rattle.account.proofs.Only.{missed}
 
@@ -24,10 +24,27 @@ in_use_single rows n within single i j (lt, below) =
     let count = length-take-le n rows within in
     rw (get_or-take n rows i no_row (omega arith), get_or-take n rows j no_row (omega arith)) (single i j (lt, omega arith))
 
+pub drop_of_set : {X : Type 0} (n : ℕ) (xs : List X) (i : ℕ) (x : X) → i < n → drop n (set xs i x) ≡ drop n xs
+drop_of_set zero xs i x h = absurd (omega arith)
+drop_of_set (suc n) [] i x h = refl
+drop_of_set (suc n) (y ∷ xs) zero x h = refl
+drop_of_set (suc n) (y ∷ xs) (suc i) x h = drop_of_set n xs i x (omega arith)
+
+-- one row more is in use: the rest stays blank
+pub joins_blank : (rows : List Row) (n : ℕ) (row : Row) → n < 8 → drop n rows ≡ replicate (8 - n) blank → drop (n + 1) (set rows n row) ≡ replicate (8 - (n + 1)) blank
+joins_blank rows n row within rest =
+    let k : 8 - n ≡ suc (8 - (n + 1)) = omega arith in
+    let one : n + 1 ≡ n + 1 = refl in
+    drop_of_set (n + 1) rows n row (omega arith)
+    ∙ sym (drop-drop 1 n rows)
+    ∙ ap (drop 1) (rest ∙ ap (λ m. replicate m blank) k)
+
 -- what the rows in use and the free ones are together
-pub whole_in_use : (rows : List Row) (n : ℕ) → length rows ≡ 8 → n ≤ 8 → Single rows n → Whole (record { rows = in_use rows n; free = drop n rows })
-whole_in_use rows n eight within single =
+pub whole_in_use : (rows : List Row) (n : ℕ) → length rows ≡ 8 → n ≤ 8 → Single rows n → drop n rows ≡ replicate (8 - n) blank → Whole (record { rows = in_use rows n; free = drop n rows })
+whole_in_use rows n eight within single rest =
+    let k : length (drop n rows) ≡ 8 - n = length-drop n rows ∙ ap (λ m. m - n) eight in
     record {
+      blank_rest = rest ∙ ap (λ m. replicate m blank) (sym k);
       eight = omega (arith, length-take-le n rows (omega arith), length-drop n rows);
       single = in_use_single rows n (omega arith) single;
     }

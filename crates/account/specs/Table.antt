@@ -1,5 +1,5 @@
 -- The account table: the rows in use, and how one joins them.
-use Rattle.std.specs.Prelude.{◌≡◌, ℕ, ◌+◌, ◌<◌, Bool, true, false, cond, List, [], ◌∷◌, ◌++◌, length, take, is_some, Ok, Err, Result, nat_lt}
+use Rattle.std.specs.Prelude.{◌≡◌, ℕ, ◌+◌, ◌<◌, Bool, true, false, cond, List, [], ◌∷◌, ◌++◌, length, take, replicate, is_some, Ok, Err, Result, nat_lt}
 use Rattle.wire.specs.declared.refusals.Refusal.{Refusal}
 use Rattle.wire.specs.declared.refusals.Refusal.TheVariants.{AccountTaken}
 use Rattle.account.specs.declared.fields.Account.{Account}
@@ -22,9 +22,19 @@ Single rows count =
     (i j : ℕ) → (i < j) × (j < count) →
     matches (row_at rows i) (row_at rows j).account.user (row_at rows j).account.computer ≡ false
 
--- what holds of every table: it has eight rows, and a user and a computer ID stand in one of those in use at most
+-- a row that is not in use: spaces, and no mark
+abbrev pub blank : Row
+blank =
+    record {
+      account = record { user = replicate 5 0x20; computer = replicate 8 0x20; protocol = replicate 8 0x20 };
+      marked = false;
+    }
+
+-- what holds of every table: it has eight rows, those not in use are blank, and a user and a computer ID stand
+-- in one of those in use at most
 pub record Whole (t : Table) : Type 0 where
   pub eight : length t.rows + length t.free ≡ 8
+  pub blank_rest : t.free ≡ replicate (length t.free) blank
   pub single : Single t.rows (length t.rows)
 
 -- the row of an account that nobody is logged in by

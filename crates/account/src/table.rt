@@ -1,7 +1,7 @@
 //! The account table.
-ghost use Rattle.std.specs.Prelude.{◌≡◌, ℕ, ◌+◌, ◌<◌, ◌≤◌, true, false, [], ◌∷◌, ◌++◌, length, drop, None, Option, ◌≢◌};
+ghost use Rattle.std.specs.Prelude.{◌≡◌, ℕ, ◌+◌, ◌-◌, ◌<◌, ◌≤◌, true, false, [], ◌∷◌, ◌++◌, length, drop, replicate, None, Option, ◌≢◌};
 ghost use Rattle.account.specs.Rows.{found, row_at, marking};
-ghost use Rattle.account.specs.Table.{Table, Whole, in_use, Single, joining, place_of, joined};
+ghost use Rattle.account.specs.Table.{Table, Whole, blank, in_use, Single, joining, place_of, joined};
 ghost use Rattle.account.specs.Laws.{Finds};
 
 use crate::fields::Account;
@@ -13,7 +13,7 @@ use wire::Refusal;
 /// How many rows a table has.
 pub const CAPACITY: usize = 8;
 
-/// A table of accounts. A user and a computer ID stand in one row at most.
+/// A table of accounts. A user and a computer ID stand in one row at most, and a row that is not in use is blank.
 // An array and a count beside it: a table is an array of eight rows, a rule of the project.
 #[derive(Drop)]
 pub struct Accounts {
@@ -28,7 +28,23 @@ impl Model for Accounts {
 
     ghost view = { λ t. record { rows = in_use t.rows t.count; free = drop t.count t.rows } };
 
-    ghost invariant = { λ t. (length t.rows ≡ 8) × (t.count ≤ 8) × Single t.rows t.count };
+    ghost invariant = { λ t. (length t.rows ≡ 8) × (t.count ≤ 8) × Single t.rows t.count
+        × (drop t.count t.rows ≡ replicate (8 - t.count) blank) };
+}
+
+/// A row that is not in use.
+fn blank() -> Row
+    ensures { result ≡ blank }
+{
+    let account = Account {
+        user: [b' '; 5],
+        computer: [b' '; 8],
+        protocol: [b' '; 8],
+    };
+    Row {
+        account,
+        marked: false,
+    }
 }
 
 impl Accounts {
@@ -37,17 +53,8 @@ impl Accounts {
         ensures rows { result.rows ≡ [] }
         ensures whole { Whole result }
     {
-        let account = Account {
-            user: [b' '; 5],
-            computer: [b' '; 8],
-            protocol: [b' '; 8],
-        };
-        let blank = Row {
-            account,
-            marked: false,
-        };
         Accounts {
-            rows: [blank; CAPACITY],
+            rows: [blank(); CAPACITY],
             count: 0,
         }
     }

@@ -50,7 +50,7 @@ log_sound session messages byte silent fits placed a =
     }
 
 line_sound : (limit : ℕ) → 1 ≤ limit → Line.Steady (line_of limit [])
-line_sound limit h = record { sound = record { empty = λ e. refl; size = (omega arith, omega arith); some = h }; within = omega arith }
+line_sound limit h = record { sound = record { empty = λ e. refl; within = omega arith; size = (omega arith, omega arith); some = h }; within = omega arith }
 
 pub set_up_lem : (messages : List Message) (limit : ℕ) (b : Buffers) → 1 ≤ limit → Log.taken 0 messages ≤ 65536 → length messages ≤ 1000 → All Fair messages → SetUp (starting_with messages limit b)
 set_up_lem messages limit b h fits placed a =

@@ -2,7 +2,7 @@
 use crate::messages::stamp;
 use crate::relays::{publish, relay, ring, round};
 use crate::sums::{SEED, mix, mix_bytes};
-use line::SteadyLine;
+use line::Line;
 use lines::Paced;
 use logs::Journal;
 use message_log::{Log, SIZE_LIMIT};
@@ -32,7 +32,7 @@ pub fn levels_paced(
 }
 
 // A hub that publishes until its log is full, and a seat that is brought level so many times.
-fn leveled<L: SteadyLine + Drop>(
+fn leveled<L: Line + Drop>(
     heap: Global,
     relay: Relay<Journal, Journal, L, L>,
     length: usize,
@@ -54,7 +54,7 @@ fn leveled<L: SteadyLine + Drop>(
 }
 
 // The hub publishes so many messages, or as many as its log takes.
-fn publish_all<L: SteadyLine + Drop>(
+fn publish_all<L: Line + Drop>(
     relay: &mut Relay<Journal, Journal, L, L>,
     message: &mut [u8],
     count: usize,
@@ -89,7 +89,7 @@ pub fn lives(
 }
 
 // One message, from the hub to the seat.
-fn lived<L: SteadyLine + Drop>(
+fn lived<L: Line + Drop>(
     sum: u64,
     relay: &mut Relay<Journal, Journal, L, L>,
     message: &[u8],

@@ -3,7 +3,7 @@ ghost use Rattle.rules.specs.Rounds.{Publish};
 ghost use Rattle.pair.specs.Steps.{Does, GoesRound};
 
 use account::Accounts;
-use line::{Line, SteadyLine};
+use line::Line;
 use lines::Ring;
 use logs::Journal;
 use message_log::Log;
@@ -24,7 +24,7 @@ const SEAT: AccountTexts = AccountTexts {
 };
 
 /// A relay of two empty journals of so many bytes, over these lines.
-pub fn relay<L: SteadyLine + Drop>(
+pub fn relay<L: Line + Drop>(
     heap: Global,
     size: usize,
     up: L,
@@ -43,7 +43,7 @@ pub fn relay<L: SteadyLine + Drop>(
 }
 
 /// The hub publishes a message.
-pub fn publish<L: SteadyLine>(
+pub fn publish<L: Line>(
     relay: &mut Relay<Journal, Journal, L, L>,
     message: &[u8],
 ) -> Result<(), Refusal>
@@ -57,7 +57,7 @@ pub fn publish<L: SteadyLine>(
 }
 
 /// One round.
-pub fn round<L: SteadyLine>(relay: &mut Relay<Journal, Journal, L, L>) -> Result<Report, Refusal>
+pub fn round<L: Line>(relay: &mut Relay<Journal, Journal, L, L>) -> Result<Report, Refusal>
     ensures { GoesRound relay.old.pair result relay.new.pair }
 {
     match relay.perform(Call::Round) {

@@ -4,14 +4,14 @@ ghost use Rattle.std.specs.Prelude.{◌≡◌, ◌+◌, ◌-◌, ◌≤◌, leng
 ghost use Rattle.rules.specs.Frames.{lack};
 ghost use Rattle.framing.specs.Filling.{Filled, wanted};
 
-use line::SteadyLine;
+use line::Line;
 use wire::PACKET_LIMIT;
 
 /// Takes from the line, no more bytes than the frame lacks, and says how many came. The frame is the
 /// first `held` bytes of its buffer, and what comes is laid behind it. Where the buffer could not hold the longest
 /// packet, or more than that is held, nothing is taken.
 #[inline(always)]
-pub fn fill<L: SteadyLine>(line: &mut L, frame: &mut [u8], held: usize) -> usize
+pub fn fill<L: Line>(line: &mut L, frame: &mut [u8], held: usize) -> usize
     ensures { let before = L.Line.view line.old in
         let after = L.Line.view line.new in
         Filled before frame.old held (wanted held frame.old) result after frame.new }
@@ -42,7 +42,7 @@ fn lacking(frame: &[u8]) -> usize
 
 // Takes into the buffer from offset `from` to offset `end`.
 #[inline(always)]
-fn take_at<L: SteadyLine>(line: &mut L, frame: &mut [u8], from: usize, end: usize) -> usize
+fn take_at<L: Line>(line: &mut L, frame: &mut [u8], from: usize, end: usize) -> usize
     requires { (from ≤ end) × (end ≤ length frame.old) }
     ensures { let before = L.Line.view line.old in
         let after = L.Line.view line.new in

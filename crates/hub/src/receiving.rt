@@ -14,7 +14,7 @@ ghost use Rattle.hub.specs.Receives.{Receives, hears};
 use crate::hubs::Hub;
 use account::Accounts;
 use framing::{fill, is_part, judge};
-use line::{Line, SteadyLine};
+use line::Line;
 use message_log::Log;
 use packet::Packet;
 use rules::Received;
@@ -24,7 +24,7 @@ impl Hub {
     /// Takes once from the up line, and acts on the packet if that makes one whole. Refuses by `ShortBuffer` and,
     /// where it does not listen, by `WrongPhase`, with nothing changed. A bad packet ends the connection: the seat is
     /// told so if the down line has the room.
-    pub fn receive<G: Log, U: SteadyLine, D: Line>(
+    pub fn receive<G: Log, U: Line, D: Line>(
         &mut self,
         log: &G,
         accounts: &mut Accounts,
@@ -61,7 +61,7 @@ impl Hub {
 
     // Takes once, and acts on a packet that is whole. After a fault the frame is empty.
     #[tactic(auto, using(framing::proofs::Fills::fill_free, framing::proofs::Fills::fewer_after, crate::proofs::Frames::hears_none))]
-    fn hear<G: Log, U: SteadyLine>(
+    fn hear<G: Log, U: Line>(
         &mut self,
         log: &G,
         accounts: &mut Accounts,

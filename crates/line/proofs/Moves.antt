@@ -1,5 +1,5 @@
 -- The steps of a transfer.
-use Rattle.std.proofs.Common.{◌≡◌, ℕ, ◌+◌, ◌-◌, ◌≤◌, List, ◌++◌, length, take, drop, Result, sym, ap, ◌∙◌, append_assoc, arith, length-append}
+use Rattle.std.proofs.Common.{◌≡◌, ℕ, ◌+◌, ◌-◌, ◌≤◌, List, ◌++◌, length, take, Result, ap, ◌∙◌, append_assoc, arith, length-append}
 use Rattle.wire.specs.declared.refusals.Refusal.{Refusal}
 use Rattle.line.specs.Lines.{LineView, Put, Taken, joined}
 use Rattle.line.specs.Transfers.{Moved}

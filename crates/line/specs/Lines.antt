@@ -17,6 +17,7 @@ pub record LineView : Type 0 where
 -- What holds of every line at all times.
 pub record Sound (v : LineView) : Type 0 where
   pub empty : v.waiting ≡ [] → v.room ≡ v.full
+  pub within : v.room ≤ v.full
   pub size : LineSize v.full
   pub some : 1 ≤ v.limit
 

@@ -4,7 +4,7 @@
 //! is written once for every type that implements `Line`, and is proved from the trait's contracts alone.
 //!
 //! Left out: the lines themselves, which are in the crate `lines`. In the order a reader meets them: `Line`,
-//! `SteadyLine`, `PeekLine`, `transfer`, the sizes.
+//! `PeekLine`, `transfer`, the sizes.
 #![tactic(auto)]
 
 pub mod lines;
@@ -12,7 +12,7 @@ pub mod peeks;
 pub mod sizes;
 pub mod transfers;
 
-pub use lines::{Line, SteadyLine};
+pub use lines::Line;
 pub use peeks::PeekLine;
 pub use sizes::{LARGEST_SIZE, LONGEST_PIECE, SMALLEST_SIZE, is_line_size, is_piece_length};
 pub use transfers::transfer;

@@ -1,5 +1,5 @@
 //! The trait of every line.
-ghost use Rattle.std.specs.Prelude.{◌≡◌, ◌≤◌, length};
+ghost use Rattle.std.specs.Prelude.{◌≡◌, length};
 ghost use Rattle.line.specs.Lines.{LineView, Sound, Put, Taken, cleared};
 
 use wire::Refusal;
@@ -36,10 +36,4 @@ pub trait Line {
         ensures { view self.new ≡ cleared (view self.old) };
 
     ghost sound: { (s : Self) → Sound (view s) };
-}
-
-/// A line whose room is never more than its full size, as each kind of line here is. An end of a pair receives
-/// from such a line.
-pub trait SteadyLine: Line {
-    ghost within: { (s : Self) → (Self.view s).room ≤ (Self.view s).full };
 }

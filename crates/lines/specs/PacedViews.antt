@@ -11,7 +11,7 @@ use Rattle.line.specs.Sizes.{PieceLength}
 use Rattle.lines.specs.Pacing.{paced_view}
 
 pub paced_sound : {v : LineView} {n : ℕ} → Sound v → PieceLength n → Sound (paced_view v n)
-paced_sound s p = record { empty = s.empty; size = s.size; some = omega (arith, s.some, p.0) }
+paced_sound s p = record { empty = s.empty; within = s.within; size = s.size; some = omega (arith, s.some, p.0) }
 
 -- the smallest of four numbers, however it is found
 smallest : (waiting buffer limit pace most : ℕ) → most ≡ min buffer pace →

@@ -16,6 +16,7 @@ module _ (places : List ℕ) (size start count : ℕ) (long : length places ≡ 
   ring_sound =
       record {
         empty = λ e. let z : count ≡ 0 = sym waits ∙ ap length e in omega arith;
+        within = omega arith;
         size = ok.2;
         some = omega arith;
       }

@@ -23,6 +23,10 @@ ring_view places size start count =
       limit = packet_limit;
     }
 
+-- Every byte that was taken is room again at once: the room is what does not wait.
+abbrev pub FreesAtOnce : LineView → Type 0
+FreesAtOnce v = v.room + length v.waiting ≡ v.full
+
 -- The place r lies so many places on from `at`, round the end.
 pub record Onward (at by size r : ℕ) : Type 0 where
   pub near : at + by < size → r ≡ at + by

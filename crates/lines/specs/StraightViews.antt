@@ -16,6 +16,7 @@ module _ (places : List ℕ) (size start end : ℕ) (long : length places ≡ si
       record {
         empty = λ e. let z : end - start ≡ 0 = sym waits ∙ ap length e in
             let q : end ≡ 0 = ok.2 (omega (arith, ok.0)) in omega arith;
+        within = omega arith;
         size = ok.3;
         some = omega arith;
       }

@@ -1,5 +1,5 @@
 -- Places that are filled from the front, as a line.
-use Rattle.std.specs.Prelude.{◌≡◌, ℕ, ◌-◌, ◌≤◌, List, take, drop}
+use Rattle.std.specs.Prelude.{◌≡◌, ℕ, ◌-◌, ◌≤◌, cond, List, length, take, drop, ◌==◌}
 use Rattle.line.specs.Lines.{LineView}
 use Rattle.line.specs.Sizes.{LineSize}
 
@@ -16,3 +16,8 @@ straight_view places size start end =
       full = size;
       limit = 1;
     }
+
+-- A take gives room back only when nothing waits any more, and then all of it.
+abbrev pub FreesOnceEmpty : LineView → LineView → Type 0
+FreesOnceEmpty before after =
+    after.room ≡ cond (length after.waiting == 0) after.full before.room

@@ -2,14 +2,12 @@
 ghost use Rattle.lines.specs.declared.any.AnyLine.TheVariants as K;
 ghost use Rattle.lines.specs.PacedViews.{paced_sound};
 ghost use Rattle.lines.specs.contracts.rings.RingLine.TheImpl.Laws as ring;
-ghost use Rattle.lines.specs.contracts.rings.RingSteadyLine.TheImpl.Laws as steady_ring;
 ghost use Rattle.lines.specs.contracts.straights.StraightLine.TheImpl.Laws as straight;
-ghost use Rattle.lines.specs.contracts.straights.StraightSteadyLine.TheImpl.Laws as steady_straight;
 
 use crate::pacing::Paced;
 use crate::rings::Ring;
 use crate::straights::Straight;
-use line::{Line, PeekLine, SteadyLine};
+use line::{Line, PeekLine};
 use wire::Refusal;
 
 /// A line of one of the kinds. It means what the line in it means.
@@ -68,15 +66,6 @@ impl Line for AnyLine {
     fn clear(&mut self) {
         at_each!(self, line => line.clear());
     }
-}
-
-impl SteadyLine for AnyLine {
-    ghost within = { elim [
-      | K.Ring s ↦ steady_ring.within-law s
-      | K.Straight s ↦ steady_straight.within-law s
-      | K.PacedRing s ↦ steady_ring.within-law s.line
-      | K.PacedStraight s ↦ steady_straight.within-law s.line
-    ] };
 }
 
 impl PeekLine for AnyLine {

@@ -3,7 +3,7 @@ ghost use Rattle.std.specs.Prelude.{◌≡◌, replicate};
 ghost use Rattle.line.specs.Lines.{Put, Taken, cleared};
 ghost use Rattle.lines.specs.Counting.{counted, letter_in};
 
-use line::{Line, PeekLine, SteadyLine};
+use line::{Line, PeekLine};
 use packet::LetterCounts;
 use wire::{Letter, Refusal};
 
@@ -93,10 +93,6 @@ impl<L: Line> Line for CountedLine<L> {
     {
         self.line.clear();
     }
-}
-
-impl<L: SteadyLine> SteadyLine for CountedLine<L> {
-    ghost within = { λ s. L.SteadyLine.within s.line };
 }
 
 impl<L: PeekLine> PeekLine for CountedLine<L> {

@@ -5,7 +5,7 @@ ghost use Rattle.line.specs.Sizes.{PieceLength};
 ghost use Rattle.lines.specs.Pacing.{paced_view};
 ghost use Rattle.lines.specs.PacedViews.{paced_sound};
 
-use line::{Line, PeekLine, SteadyLine, is_piece_length};
+use line::{Line, PeekLine, is_piece_length};
 use wire::{Refusal, Unmade, allow};
 
 /// A line over another, with a hand-out limit of its own.
@@ -53,10 +53,6 @@ impl<L: Line> Line for Paced<L> {
     fn clear(&mut self) {
         self.line.clear();
     }
-}
-
-impl<L: SteadyLine> SteadyLine for Paced<L> {
-    ghost within = { λ s. L.SteadyLine.within s.line };
 }
 
 impl<L: PeekLine> PeekLine for Paced<L> {

@@ -1,16 +1,15 @@
 //! The ring, and how it is a line.
 ghost use Rattle.std.specs.Prelude.{◌≡◌, vec_len};
 ghost use Rattle.std.proofs.Common.{sym};
-ghost use Rattle.std.proofs.Math.Nat.{sub-le};
 ghost use Rattle.line.specs.Lines.{fresh};
 ghost use Rattle.wire.specs.Making.{Makes};
 ghost use Rattle.line.specs.Sizes.{LineSize};
 ghost use Rattle.wire.specs.Limits.{packet_limit};
-ghost use Rattle.lines.specs.Rings.{InRing, ring_view};
+ghost use Rattle.lines.specs.Rings.{InRing, ring_view, FreesAtOnce};
 ghost use Rattle.lines.specs.RingViews.{ring_sound};
 
 use crate::ring_offsets::{lay_round, lend_round, onward, read_round};
-use line::{Line, PeekLine, SteadyLine, is_line_size};
+use line::{Line, PeekLine, is_line_size};
 use wire::{PACKET_LIMIT, Refusal, Unmade, allow};
 
 /// A line whose memory is used round and round.
@@ -47,7 +46,10 @@ impl Line for Ring {
         self.count
     }
 
-    fn room(&self) -> usize {
+    fn room(&self) -> usize
+        ensures room { result ≡ (⟦<Ring as Line>⟧.view self.now).room }
+        ensures fills { FreesAtOnce (⟦<Ring as Line>⟧.view self.now) }
+    {
         self.bytes.len() - self.count
     }
 
@@ -73,10 +75,6 @@ impl Line for Ring {
         self.start = 0;
         self.count = 0;
     }
-}
-
-impl SteadyLine for Ring {
-    ghost within = { λ s. sub-le s.bytes.len s.count };
 }
 
 impl PeekLine for Ring {

@@ -1,14 +1,13 @@
 //! The straight line, and how it is a line.
 ghost use Rattle.std.specs.Prelude.{◌≡◌, vec_len};
 ghost use Rattle.std.proofs.Common.{sym};
-ghost use Rattle.std.proofs.Math.Nat.{sub-le};
-ghost use Rattle.line.specs.Lines.{fresh};
+ghost use Rattle.line.specs.Lines.{Taken, fresh};
 ghost use Rattle.wire.specs.Making.{Makes};
 ghost use Rattle.line.specs.Sizes.{LineSize};
-ghost use Rattle.lines.specs.Straights.{InOrder, straight_view};
+ghost use Rattle.lines.specs.Straights.{InOrder, straight_view, FreesOnceEmpty};
 ghost use Rattle.lines.specs.StraightViews.{straight_sound};
 
-use line::{Line, PeekLine, SteadyLine, is_line_size};
+use line::{Line, PeekLine, is_line_size};
 use wire::{Refusal, Unmade, allow, lay};
 
 /// A line whose memory is used from the front, and anew once nothing waits.
@@ -58,7 +57,14 @@ impl Line for Straight {
         Ok(())
     }
 
-    fn take(&mut self, buffer: &mut [u8]) -> usize {
+    fn take(&mut self, buffer: &mut [u8]) -> usize
+        ensures taken { let before = ⟦<Straight as Line>⟧.view self.old in
+            let after = ⟦<Straight as Line>⟧.view self.new in
+            Taken before buffer.old result after buffer.new }
+        ensures room { let before = ⟦<Straight as Line>⟧.view self.old in
+            let after = ⟦<Straight as Line>⟧.view self.new in
+            FreesOnceEmpty before after }
+    {
         if self.start == self.end || buffer.is_empty() {
             return 0;
         }
@@ -75,10 +81,6 @@ impl Line for Straight {
         self.start = 0;
         self.end = 0;
     }
-}
-
-impl SteadyLine for Straight {
-    ghost within = { λ s. sub-le s.bytes.len s.end };
 }
 
 impl PeekLine for Straight {

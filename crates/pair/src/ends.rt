@@ -7,7 +7,7 @@ ghost use Rattle.pair.specs.Steps.{ReceivesAtHub, ReceivesAtSeat, SendsFromHub, 
 
 use crate::buffers::Buffers;
 use crate::pairs::Pair;
-use line::{Line, SteadyLine};
+use line::Line;
 use message_log::Log;
 use rules::Received;
 use wire::{Letter, Refusal};
@@ -15,7 +15,7 @@ use wire::{Letter, Refusal};
 impl Pair {
     /// The hub takes once from the up line, and acts on a packet that is whole then. Refuses by `ShortBuffer`,
     /// `WrongPhase` and `BadPacket`, in this order; the last ends the connection.
-    pub fn hub_receive<G: Log, U: SteadyLine, D: Line>(
+    pub fn hub_receive<G: Log, U: Line, D: Line>(
         &mut self,
         hub_log: &G,
         up: &mut U,
@@ -42,7 +42,7 @@ impl Pair {
 
     /// The seat takes once from the down line, and acts on a packet that is whole then. Refuses by `ShortBuffer`,
     /// `WrongPhase`, and by `BadPacket` or `LogFull`, which end the connection.
-    pub fn seat_receive<S: Log, U: Line, D: SteadyLine>(
+    pub fn seat_receive<S: Log, U: Line, D: Line>(
         &mut self,
         seat_log: &mut S,
         up: &mut U,

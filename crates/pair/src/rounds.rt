@@ -10,7 +10,7 @@ ghost use Rattle.pair.specs.Goings.{meant};
 
 use crate::buffers::Buffers;
 use crate::pairs::Pair;
-use line::SteadyLine;
+use line::Line;
 use message_log::Log;
 use rules::{Heard, Received, Report};
 use wire::{Fault, Refusal};
@@ -42,7 +42,7 @@ impl Pair {
     /// A round: the hub receives until nothing waits or it is refused, and sends; then the seat does. A send that is
     /// refused sends nothing. It answers for each end how many packets were acted on, and what was wrong. Refuses by
     /// `ShortBuffer`, with nothing changed.
-    pub fn round<G: Log, S: Log, U: SteadyLine, D: SteadyLine>(
+    pub fn round<G: Log, S: Log, U: Line, D: Line>(
         &mut self,
         hub_log: &G,
         seat_log: &mut S,
@@ -68,7 +68,7 @@ impl Pair {
     }
 
     // The hub receives until nothing waits or it is refused.
-    fn drain_hub<G: Log, U: SteadyLine, D: SteadyLine>(
+    fn drain_hub<G: Log, U: Line, D: Line>(
         &mut self,
         hub_log: &G,
         up: &mut U,
@@ -98,7 +98,7 @@ impl Pair {
     }
 
     // The seat receives until nothing waits or it is refused.
-    fn drain_seat<S: Log, U: SteadyLine, D: SteadyLine>(
+    fn drain_seat<S: Log, U: Line, D: Line>(
         &mut self,
         seat_log: &mut S,
         up: &mut U,

@@ -8,7 +8,7 @@ ghost use Rattle.pair.specs.Lent.{any_short};
 ghost use Rattle.pair.specs.Meanings.{pair_of};
 ghost use Rattle.relay.specs.Levels.{how_of, answered_by, BringsLevel};
 
-use line::SteadyLine;
+use line::Line;
 use message_log::Log;
 use pair::{Buffers, Pair};
 use rules::{How, SeatPhase};
@@ -51,7 +51,7 @@ impl Way {
 /// accepted and the seat's log has room and places for what it lacks, it is the hub's then. It answers what the hub
 /// answered the login, or `None` if the lines had no room for the login or its answer. Refuses by `ShortBuffer`, with
 /// nothing changed.
-pub fn bring_level<G: Log, S: Log, U: SteadyLine, D: SteadyLine>(
+pub fn bring_level<G: Log, S: Log, U: Line, D: Line>(
     pair: &mut Pair,
     way: Way,
     hub_log: &G,
@@ -88,7 +88,7 @@ pub(crate) fn login_answer(phase: SeatPhase, rejected: Option<Status>) -> Option
 }
 
 // Goes so many rounds.
-fn go_rounds<G: Log, S: Log, U: SteadyLine, D: SteadyLine>(
+fn go_rounds<G: Log, S: Log, U: Line, D: Line>(
     pair: &mut Pair,
     rounds: usize,
     hub_log: &G,

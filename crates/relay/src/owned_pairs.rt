@@ -11,7 +11,7 @@ use crate::commands::Call;
 use crate::leveling::{Way, bring_level};
 use crate::parts::Parts;
 use crate::performing::perform;
-use line::{Line, SteadyLine};
+use line::Line;
 use message_log::Log;
 use pair::{AccountTexts, Buffers, Pair};
 use rules::Answer;
@@ -19,7 +19,7 @@ use wire::{Refusal, Status, Unmade};
 
 /// A pair, and all that its calls are lent.
 #[derive(Drop)]
-pub struct OwnedPair<G: Log, S: Log, U: SteadyLine, D: SteadyLine> {
+pub struct OwnedPair<G: Log, S: Log, U: Line, D: Line> {
     pub pair: Pair,
     pub hub_log: G,
     pub seat_log: S,
@@ -30,7 +30,7 @@ pub struct OwnedPair<G: Log, S: Log, U: SteadyLine, D: SteadyLine> {
     pub buffers: Buffers,
 }
 
-impl<G: Log, S: Log, U: SteadyLine, D: SteadyLine> OwnedPair<G, S, U, D> {
+impl<G: Log, S: Log, U: Line, D: Line> OwnedPair<G, S, U, D> {
     /// Sets a pair up of all its parts. Refuses as `Pair::set_up` does, and hands the parts back unchanged.
     pub fn set_up(
         parts: Parts<G, S, U, D>,

@@ -3,7 +3,7 @@ ghost use Rattle.std.specs.Prelude.{IfOk};
 ghost use Rattle.relay.specs.Copies.{Copies};
 
 use account::Accounts;
-use line::{Line, SteadyLine};
+use line::Line;
 use message_log::Log;
 use pair::{AccountTexts, Buffers};
 use std::alloc::{AllocError, Global};
@@ -32,7 +32,7 @@ impl Credentials {
 
 /// All that a pair is set up of.
 #[derive(Drop)]
-pub struct Parts<G: Log, S: Log, U: SteadyLine, D: SteadyLine> {
+pub struct Parts<G: Log, S: Log, U: Line, D: Line> {
     pub hub_log: G,
     pub seat_log: S,
     /// The line from the seat to the hub.
@@ -47,7 +47,7 @@ pub struct Parts<G: Log, S: Log, U: SteadyLine, D: SteadyLine> {
 }
 
 /// The parts mean what set-up is given.
-impl<G: Log, S: Log, U: SteadyLine, D: SteadyLine> Model for Parts<G, S, U, D> {
+impl<G: Log, S: Log, U: Line, D: Line> Model for Parts<G, S, U, D> {
     ghost use Rattle.rules.specs.SetUp as Given;
 
     ghost Value = { Given.Parts };

@@ -4,13 +4,13 @@ ghost use Rattle.relay.specs.Calls.{call_of};
 ghost use Rattle.relay.specs.Histories.{Performs};
 
 use crate::commands::Call;
-use line::SteadyLine;
+use line::Line;
 use message_log::Log;
 use pair::{Buffers, Pair};
 use rules::Answer;
 
 /// Performs a call on a pair: a step of the rules, after which the promises hold as before.
-pub fn perform<G: Log, S: Log, U: SteadyLine, D: SteadyLine>(
+pub fn perform<G: Log, S: Log, U: Line, D: Line>(
     pair: &mut Pair,
     call: Call,
     hub_log: &mut G,

@@ -13,7 +13,7 @@ use crate::leveling::{Way, login_answer};
 use crate::owned_pairs::OwnedPair;
 use crate::parts::Parts;
 use crate::running::Slot;
-use line::{Line, SteadyLine};
+use line::Line;
 use message_log::Log;
 use rules::Answer;
 use std::marker::Model;
@@ -23,14 +23,14 @@ use wire::{Refusal, Status, Unmade};
 /// A pair with its logs, lines and buffers, to which nothing happens but the calls that are made here. What was set up
 /// and which calls were made is kept for proofs, and takes no memory.
 #[derive(Drop)]
-pub struct Relay<G: Log, S: Log, U: SteadyLine, D: SteadyLine> {
+pub struct Relay<G: Log, S: Log, U: Line, D: Line> {
     owned: OwnedPair<G, S, U, D>,
     first: Snapshot<OwnedPair<G, S, U, D>>,
     made: CallsMade,
 }
 
 /// A relay means its history, which happened.
-impl<G: Log, S: Log, U: SteadyLine, D: SteadyLine> Model for Relay<G, S, U, D> {
+impl<G: Log, S: Log, U: Line, D: Line> Model for Relay<G, S, U, D> {
     ghost use Rattle.relay.specs.CallHistory.{CallHistory, Happened};
     ghost use Rattle.relay.specs.OwnedPairs.{meaning_of};
 
@@ -49,7 +49,7 @@ impl<G: Log, S: Log, U: SteadyLine, D: SteadyLine> Model for Relay<G, S, U, D> {
     }) };
 }
 
-impl<G: Log, S: Log, U: SteadyLine, D: SteadyLine> Relay<G, S, U, D> {
+impl<G: Log, S: Log, U: Line, D: Line> Relay<G, S, U, D> {
     /// Sets a relay up of all its parts. Refuses as `Pair::set_up` does, and hands the parts back unchanged.
     pub fn set_up(parts: Parts<G, S, U, D>) -> Result<Relay<G, S, U, D>, Unmade<Parts<G, S, U, D>>>
         ensures { BeginsHistory parts result }

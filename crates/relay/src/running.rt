@@ -4,7 +4,7 @@ ghost use Rattle.relay.specs.Slots.{Runs};
 
 use crate::commands::Call;
 use crate::performing::perform;
-use line::SteadyLine;
+use line::Line;
 use message_log::Log;
 use pair::{Buffers, Pair};
 use rules::Answer;
@@ -27,7 +27,7 @@ impl<'a> From<Call<'a>> for Slot<'a> {
 }
 
 /// Performs the calls of these slots one after the other, granted or refused, and puts the answer of each into its slot.
-pub fn run<G: Log, S: Log, U: SteadyLine, D: SteadyLine>(
+pub fn run<G: Log, S: Log, U: Line, D: Line>(
     pair: &mut Pair,
     slots: &mut [Slot<'_>],
     hub_log: &mut G,

@@ -24,8 +24,8 @@ tight =
 tight_lined : Lined tight
 tight_lined =
     record {
-      up = record { sound = record { empty = λ e. (cc); size = (omega arith, omega arith); some = omega arith }; within = omega arith };
-      down = record { sound = record { empty = λ e. refl; size = (omega arith, omega arith); some = omega arith }; within = omega arith };
+      up = record { sound = record { empty = λ e. (cc); within = omega arith; size = (omega arith, omega arith); some = omega arith }; within = omega arith };
+      down = record { sound = record { empty = λ e. refl; within = omega arith; size = (omega arith, omega arith); some = omega arith }; within = omega arith };
     }
 
 -- the takes leave no room

@@ -97,6 +97,7 @@ joined_sound v x i =
       sound =
           record {
             empty = λ e. absurd (omega (arith, length_encode x, length-append v.waiting (encode x), ap length e));
+            within = omega (arith, i.within);
             size = i.sound.size;
             some = i.sound.some;
           };
@@ -104,10 +105,10 @@ joined_sound v x i =
     }
 
 cleared_sound : (v : LineView) → Steady v → Steady (cleared v)
-cleared_sound v i = record { sound = record { empty = λ e. refl; size = i.sound.size; some = i.sound.some }; within = omega arith }
+cleared_sound v i = record { sound = record { empty = λ e. refl; within = omega arith; size = i.sound.size; some = i.sound.some }; within = omega arith }
 
 left_sound : (v : LineView) (n room : ℕ) → Free v n room → Steady v → Steady (left v n room)
-left_sound v n room f i = record { sound = record { empty = f.empty; size = i.sound.size; some = i.sound.some }; within = f.within }
+left_sound v n room f i = record { sound = record { empty = f.empty; within = f.within; size = i.sound.size; some = i.sound.some }; within = f.within }
 
 fronted_longer : (m b : List ℕ) → length b ≤ length (fronted m b)
 fronted_longer m b = omega (arith, length-append m (drop (length m) b), length-drop (length m) b)

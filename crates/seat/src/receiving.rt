@@ -14,7 +14,7 @@ ghost use Rattle.seat.specs.Receives.{Receives, hears};
 
 use crate::seats::Seat;
 use framing::{fill, is_part, judge};
-use line::{Line, SteadyLine};
+use line::Line;
 use message_log::Log;
 use packet::Packet;
 use rules::Received;
@@ -24,7 +24,7 @@ impl Seat {
     /// Takes once from the down line, and acts on the packet if that makes one whole. Refuses by `ShortBuffer` and,
     /// where there is no connection, by `WrongPhase`, with nothing changed. A bad packet, and a log that refuses the
     /// next message, end the connection: the hub is told so if the up line has the room.
-    pub fn receive<G: Log, U: Line, D: SteadyLine>(
+    pub fn receive<G: Log, U: Line, D: Line>(
         &mut self,
         log: &mut G,
         up: &mut U,
@@ -62,7 +62,7 @@ impl Seat {
 
     // Takes once, and acts on a packet that is whole. After a fault the frame is empty.
     #[tactic(auto, using(framing::proofs::Fills::fill_free, framing::proofs::Fills::fewer_after, crate::proofs::Frames::hears_none))]
-    fn hear<G: Log, D: SteadyLine>(
+    fn hear<G: Log, D: Line>(
         &mut self,
         log: &mut G,
         down: &mut D,

@@ -1,5 +1,5 @@
-//! Runs of the logs on examples: the same calls on both kinds, a journal that is saved and opened, and one that is
-//! broken.
+//! Runs of the logs on examples: the same calls on both kinds, a journal that is saved and opened, one that is broken,
+//! and one whose index may have no memory.
 use logs::{AnyLog, Indexed, Journal};
 use message_log::Log;
 use std::process::Abort;
@@ -93,5 +93,44 @@ fn refused_gives_the_memory_back(rt: HostRuntime) -> Result<(), Fail> {
         return Err(Fail::new("there are no 12 bytes"));
     };
     assert_eq!(rt; over.refusal, Refusal::SizeOutOfRange);
+    Ok(())
+}
+
+// Messages, and where the record of each begins behind the session record.
+const MESSAGES: [(usize, &[u8]); 6] = [
+    (5, b""),
+    (9, b"a"),
+    (14, b"bc"),
+    (20, b""),
+    (24, b"def"),
+    (31, b"g"),
+];
+
+// Whether a journal holds the messages, each where it begins, whatever its index has.
+fn holds_all(rt: &impl Abort, journal: &Journal) {
+    for (before, (offset, message)) in MESSAGES.iter().enumerate() {
+        assert_eq!(rt; journal.offset(before + 1), Ok(*offset));
+        assert_eq!(rt; journal.message(before + 1), Ok(*message));
+    }
+    assert_eq!(rt; journal.message(7), Err(Refusal::NoSuchMessage));
+}
+
+// Run with `rt try --test --fail-alloc N`, where N is that of an index, it reads behind a shorter index.
+#[test]
+fn an_index_may_be_short(rt: HostRuntime) -> Result<(), Fail> {
+    let heap = rt.alloc();
+    let Ok(mut journal) = Journal::new(heap, vec![in heap; 0u8; 36]?) else {
+        return Err(Fail::new("a journal of 36 bytes is made"));
+    };
+    assert_eq!(rt; journal.begin(7), Ok(()));
+    for (_, message) in MESSAGES {
+        assert_eq!(rt; journal.append(message), Ok(()));
+    }
+    holds_all(&rt, &journal);
+    let copy = journal.bytes().to_vec(heap)?;
+    let Ok(opened) = Journal::open(heap, copy, 36) else {
+        return Err(Fail::new("what was saved opens"));
+    };
+    holds_all(&rt, &opened);
     Ok(())
 }

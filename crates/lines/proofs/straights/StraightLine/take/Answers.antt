@@ -2,8 +2,8 @@ use Rattle.std.proofs.Common.{◌-◌, ◌≤◌, length, sym, refl, arith, fals
 use Rattle.lines.specs.StraightViews.{straight_took}
 use Rattle.lines.proofs.straights.StraightLine.take.Goals as goal
 
-pub returns-else-self-2 : goal.returns-else-self-2
-returns-else-self-2 c =
+pub returns-else-self-2-clause-taken : goal.returns-else-self-2-clause-taken
+returns-else-self-2-clause-taken c =
     let s = c.args.self.now in
     let b = c.args.buffer.now in
     let h : s.bytes.len - s.end ≤ s.bytes.len - s.end = omega arith in

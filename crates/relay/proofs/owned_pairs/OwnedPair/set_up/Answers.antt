@@ -11,8 +11,8 @@ returns-in-Ok g c =
     let lent : Parts = record { hub_log = g.G.Log.view i.hub_log; seat_log = g.S.Log.view i.seat_log; up = up; down = down; rows = i.accounts.rows; user = c.deref.result.now; computer = c.deref-2.result.now; protocol = c.deref-3.result.now; buffers = i.buffers } in
     let same : lent ≡ c.args.parts = rw (c.deref.ensures.value, c.deref-2.ensures.value, c.deref-3.ensures.value) c.parts.view_is in
     set_up_of lent c.args.parts same (g.met.G.Log.sound i.hub_log) (g.met.S.Log.sound i.seat_log)
-    (record { sound = g.met.U.Line.sound i.up; within = g.met.U.SteadyLine.within i.up })
-    (record { sound = g.met.D.Line.sound i.down; within = g.met.D.SteadyLine.within i.down })
+    (record { sound = g.met.U.Line.sound i.up; within = (g.met.U.Line.sound i.up).within })
+    (record { sound = g.met.D.Line.sound i.down; within = (g.met.D.Line.sound i.down).within })
     (c.in-Ok.ensures up down)
 
 pub returns-in-Err : goal.returns-in-Err
