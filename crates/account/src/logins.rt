@@ -33,7 +33,7 @@ impl Accounts {
         }
     }
 
-    /// Decides a login and, where it is accepted, marks its row and answers the row's place. Otherwise answers
+    /// Decides a login and, where it is accepted, marks its row and answers the row's index. Otherwise answers
     /// the status, which is never `Accepted`, and changes nothing.
     pub fn admit(&mut self, login: Login<'_>, session: u8, highest: u64) -> Result<usize, Status>
         ensures admits { let before = self.old.rows in

@@ -108,7 +108,7 @@ impl<const BASE: usize, const GAP: usize> PackedMessages<BASE, GAP> {
         let space = Space {
             session: self.session,
             room: self.memory.len() - self.used,
-            places: self.slots - self.count,
+            slots: self.slots - self.count,
             overhead: GAP,
         };
         space.judge(bytes)
