@@ -150,7 +150,8 @@ impl<const BASE: usize, const GAP: usize> PackedMessages<BASE, GAP> {
     pub fn append(&mut self, head: [u8; GAP], message: &[u8]) -> Result<(), Refusal>
         ensures value { result ≡ judged GAP (packed_of self.old) (length message.now) }
         ensures after { let before = packed_of self.old in
-            packed_of self.new ≡ settled result (extended (head.entry ++ message.now) before) before }
+            let piece = head.entry ++ message.now in
+            packed_of self.new ≡ settled result (extended piece before) before }
     {
         self.would_take(message.len())?;
         let at = self.used;
