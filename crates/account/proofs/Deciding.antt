@@ -8,7 +8,7 @@ use Rattle.wire.specs.declared.statuses.Status.TheVariants.{Accepted}
 use Rattle.account.specs.declared.rows.Row.{Row}
 use Rattle.account.specs.Rows.{found, row_at, marking}
 use Rattle.account.specs.Logins.{Asked, Check, spoken_version, checks, first_failing, status_for}
-use Rattle.account.specs.Laws.{AllPass, FirstFails, check_at, checks_of, TellsTheFirst, Acceptable, AcceptsJustThese, TurnedAway, LetsInOne}
+use Rattle.account.specs.Laws.{AllPass, FirstFails, check_at, checks_of, FirstDecides, Acceptable, AcceptsJustThese, TurnedAway, LetsInOne}
 use Rattle.account.proofs.Only.{fits, finds_the_same}
 use Rattle.account.proofs.Marking.{found_as_before, marks_one_row}
 
@@ -16,22 +16,22 @@ ahead : (check : Check) (rest : List Check) (k : ℕ) → check.passes ≡ true 
 ahead check rest k t each zero h = t
 ahead check rest k t each (suc j) h = each j (omega arith)
 
-pub told : (list : List Check) → AllPass list (first_failing list) ⊎ ((k : ℕ) × FirstFails list k (first_failing list))
-told [] = inl (record { each = λ j h. absurd (omega arith); tells = refl })
-told (check ∷ rest) =
+pub decided : (list : List Check) → AllPass list (first_failing list) ⊎ ((k : ℕ) × FirstFails list k (first_failing list))
+decided [] = inl (record { each = λ j h. absurd (omega arith); gives = refl })
+decided (check ∷ rest) =
     elim (cases_Bool check.passes) [
       | inl t ↦ (let e : first_failing (check ∷ rest) ≡ first_failing rest = cond-true _ _ _ t in
-          elim (told rest) [
-            | inl p ↦ inl (record { each = ahead check rest (length rest) t p.each; tells = e ∙ p.tells })
-            | inr f ↦ inr (suc f.0, record { within = omega (arith, f.1.within); before = ahead check rest f.0 t f.1.before; fails = f.1.fails; tells = e ∙ f.1.tells })
+          elim (decided rest) [
+            | inl p ↦ inl (record { each = ahead check rest (length rest) t p.each; gives = e ∙ p.gives })
+            | inr f ↦ inr (suc f.0, record { within = omega (arith, f.1.within); before = ahead check rest f.0 t f.1.before; fails = f.1.fails; gives = e ∙ f.1.gives })
           ])
-      | inr f ↦ inr (0, record { within = omega arith; before = λ j h. absurd (omega arith); fails = f; tells = cond-false _ _ _ f })
+      | inr f ↦ inr (0, record { within = omega arith; before = λ j h. absurd (omega arith); fails = f; gives = cond-false _ _ _ f })
     ]
 
-pub tells_the_first : TellsTheFirst
-tells_the_first rows session highest asked = told (checks_of rows session highest asked)
+pub first_decides : FirstDecides
+first_decides rows session highest asked = decided (checks_of rows session highest asked)
 
--- no check tells that it was passed
+-- no check gives the status that it was passed
 refusing : (rows : List Row) (o : Option ℕ) (session highest : ℕ) (asked : Asked) (k : ℕ) → k < 6 → (check_at (checks rows o session highest asked) k).status ≡ Accepted → ⊥
 refusing rows o session highest asked zero h e = let z : ◌≡◌ {A = ℕ} 0 1 = cc in omega arith
 refusing rows o session highest asked (suc zero) h e = let z : ◌≡◌ {A = ℕ} 0 1 = cc in omega arith
@@ -43,9 +43,9 @@ refusing rows o session highest asked (suc (suc (suc (suc (suc (suc k)))))) h e 
 
 pub all_pass : (rows : List Row) (session highest : ℕ) (asked : Asked) → status_for rows session highest asked ≡ Accepted → (j : ℕ) → j < 6 → (check_at (checks_of rows session highest asked) j).passes ≡ true
 all_pass rows session highest asked e =
-    elim (tells_the_first rows session highest asked) [
+    elim (first_decides rows session highest asked) [
       | inl p ↦ p.each
-      | inr f ↦ absurd (refusing rows (found rows asked.user asked.computer) session highest asked f.0 f.1.within (sym f.1.tells ∙ e))
+      | inr f ↦ absurd (refusing rows (found rows asked.user asked.computer) session highest asked f.0 f.1.within (sym f.1.gives ∙ e))
     ]
 
 -- what it means to pass all six by row i
@@ -103,9 +103,9 @@ pub turned_away : (rows : List Row) (session highest : ℕ) (asked : Asked) (sta
 turned_away rows session highest asked status why refused = record {
   why = sym why;
   refused = refused;
-  first = elim (tells_the_first rows session highest asked) [
-    | inl p ↦ absurd (refused (why ∙ p.tells))
-    | inr f ↦ (f.0, record { within = f.1.within; before = f.1.before; fails = f.1.fails; tells = why ∙ f.1.tells })
+  first = elim (first_decides rows session highest asked) [
+    | inl p ↦ absurd (refused (why ∙ p.gives))
+    | inr f ↦ (f.0, record { within = f.1.within; before = f.1.before; fails = f.1.fails; gives = why ∙ f.1.gives })
   ];
   same = refl;
 }

@@ -3,7 +3,7 @@ use Rattle.std.proofs.Common.{◌≡◌, ℕ, zero, suc, ◌-◌, ◌≤◌, tru
 use Rattle.std.proofs.lemmas.List.{length-replicate, length-append}
 use Rattle.std.proofs.ByRecursion.{Decides-by_and}
 use Rattle.std.proofs.lemmas.Bool.{and_from, and_parts, leb-true, le-leb}
-use Rattle.account.specs.Laws.{IsField, JudgesFields, FieldsAreToldApart}
+use Rattle.account.specs.Laws.{IsField, JudgesFields, FieldsStayApart}
 use Rattle.account.specs.Fields.{visible, all_visible, good}
 
 visible_decides : (b : ℕ) → Decides (visible b) ((0x21 ≤ b) × (b ≤ 0x7E))
@@ -46,6 +46,6 @@ ends_alike m n (x ∷ xs) (y ∷ ys) a b e =
 all_seen : (width : ℕ) (text : List ℕ) → good width text ≡ true → all_visible text ≡ true
 all_seen width text e = (and_parts (leb (length text) width) (all_visible text) (and_parts (leb 1 (length text)) (leb (length text) width && all_visible text) e).1).1
 
-pub fields_are_told_apart : FieldsAreToldApart
-fields_are_told_apart width text other e f same =
+pub fields_stay_apart : FieldsStayApart
+fields_stay_apart width text other e f same =
     ends_alike (width - length text) (width - length other) text other (all_seen width text e) (all_seen width other f) same

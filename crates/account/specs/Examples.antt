@@ -60,7 +60,7 @@ examples =
     -- the session that is running may be asked for by 0 and by its number
     ∷ decision (login (codes "mm01 ") 7 0) Accepted
     ∷ decision (login (codes "mm01 ") 6 0) SessionUnavailable
-    -- the first check that fails tells: the mark before the session, the user before the number
+    -- the first check that fails decides: the mark before the session, the user before the number
     ∷ decision (login (codes "MM02 ") 6 5) AlreadyLoggedIn
     ∷ decision (login (codes "mm03 ") 6 5) UnknownUser
     ∷ decision (old_version (login (codes "mm03 ") 0 0)) WrongVersion

@@ -59,14 +59,14 @@ check_at list k = slice_index_or list k (record { passes = true; status = Accept
 -- all checks pass, and the status says so
 pub record AllPass (list : List Check) (status : Status) : Type 0 where
   pub each : (j : ℕ) → j < length list → (check_at list j).passes ≡ true
-  pub tells : status ≡ Accepted
+  pub gives : status ≡ Accepted
 
 -- check k is the first that fails, and the status is its own
 pub record FirstFails (list : List Check) (k : ℕ) (status : Status) : Type 0 where
   pub within : k < length list
   pub before : (j : ℕ) → j < k → (check_at list j).passes ≡ true
   pub fails : (check_at list k).passes ≡ false
-  pub tells : status ≡ (check_at list k).status
+  pub gives : status ≡ (check_at list k).status
 
 -- the six checks of a login by the row that is found
 abbrev pub checks_of : List Row → ℕ → ℕ → Asked → List Check
@@ -74,8 +74,8 @@ checks_of rows session highest asked =
     checks rows (found rows asked.user asked.computer) session highest asked
 
 -- the status is that of the first check that fails, and accepted where none does
-abbrev pub TellsTheFirst : Type 0
-TellsTheFirst = (rows : List Row) (session highest : ℕ) (asked : Asked) →
+abbrev pub FirstDecides : Type 0
+FirstDecides = (rows : List Row) (session highest : ℕ) (asked : Asked) →
     AllPass (checks_of rows session highest asked) (status_for rows session highest asked)
     ⊎ ((k : ℕ)
     × FirstFails (checks_of rows session highest asked) k (status_for rows session highest asked))
@@ -122,8 +122,8 @@ abbrev pub JudgesFields : Type 0
 JudgesFields = (width : ℕ) (text : List ℕ) → JudgedRight width text
 
 -- and no two of them become the same
-abbrev pub FieldsAreToldApart : Type 0
-FieldsAreToldApart =
+abbrev pub FieldsStayApart : Type 0
+FieldsStayApart =
     (width : ℕ) (text other : List ℕ) → good width text ≡ true → good width other ≡ true →
     padded width text ≡ padded width other → text ≡ other
 

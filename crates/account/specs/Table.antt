@@ -41,7 +41,7 @@ pub record Whole (t : Table) : Type 0 where
 abbrev pub fresh : Account → Row
 fresh account = record { account = account; marked = false }
 
--- whether there is no place for an account: eight rows are in use, or one that matches
+-- whether there is no room for an account: eight rows are in use, or one that matches
 abbrev pub taken : List Row → Account → Bool
 taken rows account =
     cond (nat_lt (length rows) 8) (is_some (found rows account.user account.computer)) true
@@ -55,9 +55,9 @@ abbrev pub joining : List Row → List ℕ → List ℕ → List ℕ → Result 
 joining rows user computer protocol = placed rows (account_of user computer protocol)
 
 -- what is answered, and which rows are in use then: a refusal changes nothing, and a new row stands at the end
-abbrev pub place_of : List Row → Result Row Refusal → Result ℕ Refusal
-place_of rows (Ok row) = Ok (length rows)
-place_of rows (Err refusal) = Err refusal
+abbrev pub index_of : List Row → Result Row Refusal → Result ℕ Refusal
+index_of rows (Ok row) = Ok (length rows)
+index_of rows (Err refusal) = Err refusal
 
 abbrev pub joined : List Row → Result Row Refusal → List Row
 joined rows (Ok row) = rows ++ (row ∷ [])

@@ -1,6 +1,6 @@
 //! Theorems that stand on no call: each function's contract is one.
 ghost use Rattle.account.specs.Examples.{ExamplesHold};
-ghost use Rattle.account.specs.Laws.{Folds, FindsByFolded, FindsTheSame, MarksOneRow, FoundAsBefore, LetsInOne, JudgesFields, FieldsAreToldApart, TellsTheFirst, AcceptsJustThese};
+ghost use Rattle.account.specs.Laws.{Folds, FindsByFolded, FindsTheSame, MarksOneRow, FoundAsBefore, LetsInOne, JudgesFields, FieldsStayApart, FirstDecides, AcceptsJustThese};
 
 /// Capital letters do not matter in a lookup, and nor does the order of looking, since no user and computer ID
 /// stands in two rows.
@@ -19,15 +19,15 @@ pub fn marking_touches_one_row()
 {}
 
 /// Just the texts that may stand in a field are taken; padded, they fill it, and no two become the same.
-pub fn fields_are_told_apart()
+pub fn fields_stay_apart()
     ensures judged { JudgesFields }
-    ensures apart { FieldsAreToldApart }
+    ensures apart { FieldsStayApart }
 {}
 
 /// The status of a login is that of the first check that fails, and just those logins are accepted that are
 /// right in everything.
 pub fn the_first_check_decides()
-    ensures first { TellsTheFirst }
+    ensures first { FirstDecides }
     ensures accepted { AcceptsJustThese }
 {}
 

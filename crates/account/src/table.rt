@@ -1,7 +1,7 @@
 //! The account table.
 ghost use Rattle.std.specs.Prelude.{◌≡◌, ℕ, ◌+◌, ◌-◌, ◌<◌, ◌≤◌, true, false, [], ◌∷◌, ◌++◌, length, drop, replicate, None, Option, ◌≢◌};
 ghost use Rattle.account.specs.Rows.{found, row_at, marking};
-ghost use Rattle.account.specs.Table.{Table, Whole, blank, in_use, Single, joining, place_of, joined};
+ghost use Rattle.account.specs.Table.{Table, Whole, blank, in_use, Single, joining, index_of, joined};
 ghost use Rattle.account.specs.Laws.{Finds};
 
 use crate::fields::Account;
@@ -22,7 +22,7 @@ pub struct Accounts {
 }
 
 /// A table means the rows in use, and those that are free.
-// A model shows callers no invariant, so each call tells it by a clause of its own, `whole`.
+// A model shows callers no invariant, so each call states it by a clause of its own, `whole`.
 impl Model for Accounts {
     ghost Value = { Table };
 
@@ -87,18 +87,18 @@ impl Accounts {
     }
 
     // Three texts: they are an account only once they are judged.
-    /// Adds an account and answers the place of its row. Refuses by `BadAccountField`, and then by
+    /// Adds an account and answers the index of its row. Refuses by `BadAccountField`, and then by
     /// `AccountTaken` where every row is in use or one matches.
     pub fn add(&mut self, user: &[u8], computer: &[u8], protocol: &[u8]) -> Result<usize, Refusal>
         ensures answer { let row = joining self.old.rows user.now computer.now protocol.now in
-            result ≡ place_of self.old.rows row }
+            result ≡ index_of self.old.rows row }
         ensures after { let row = joining self.old.rows user.now computer.now protocol.now in
             self.new.rows ≡ joined self.old.rows row }
         ensures whole { Whole self.new }
     {
-        let place = self.rows().len();
+        let index = self.rows().len();
         let account = Account::new(user, computer, protocol)?;
-        if place == CAPACITY {
+        if index == CAPACITY {
             return Err(Refusal::AccountTaken);
         }
         if self.lookup(&account.user, &account.computer).is_some() {
@@ -108,7 +108,7 @@ impl Accounts {
             account,
             marked: false,
         });
-        Ok(place)
+        Ok(index)
     }
 
     /// Puts a row behind those in use.

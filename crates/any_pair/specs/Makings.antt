@@ -1,6 +1,6 @@
 -- The parts of a pair as they are made, one by one, and all of them together.
 use Rattle.std.specs.Prelude.{◌≡◌, ℕ, Bool, true, false, ◌&&◌, List, [], replicate, is_some, is_ok, IsSomeAnd, Err}
-use Rattle.account.specs.Table.{joining, joined, place_of}
+use Rattle.account.specs.Table.{joining, joined, index_of}
 use Rattle.lines.specs.declared.any.AnyLine.{AnyLine}
 use Rattle.logs.specs.Kinds.{inside}
 use Rattle.line.specs.Lines.{LineView}
@@ -39,7 +39,7 @@ Makes means (P.Buffers hub seat out) p q = (q ≡ record p { buffers = q.buffers
 abbrev pub PartDenied : Part → Builder → Refusal → Type 0
 PartDenied (P.Log end form) p e = LogDenied form e
 PartDenied (P.Line side form) p e = LineDenied form e
-PartDenied (P.Account texts) p e = place_of p.accounts.rows (joining p.accounts.rows texts.user.now texts.computer.now texts.protocol.now) ≡ Err e
+PartDenied (P.Account texts) p e = index_of p.accounts.rows (joining p.accounts.rows texts.user.now texts.computer.now texts.protocol.now) ≡ Err e
 PartDenied (P.Seat texts) p e = e ≡ OutOfMemory
 PartDenied (P.Buffers hub seat out) p e = e ≡ OutOfMemory
 

@@ -8,7 +8,7 @@ use Rattle.packet.specs.Decoding.{whole, decode}
 use Rattle.packet.specs.Laws.{Bytes, Front}
 use Rattle.packet.proofs.Back.{reads_back}
 use Rattle.packet.proofs.Forth.{writes_back}
-use Rattle.capture.specs.Runs.{Run, start, came, told, Accounted, AccountsForEveryByte, Stopped, Same, PiecesDoNotMatter}
+use Rattle.capture.specs.Runs.{Run, start, came, shown, Accounted, AccountsForEveryByte, Stopped, Same, PiecesDoNotMatter}
 
 first_bytes : (xs ys : List ℕ) → Bytes (xs ++ ys) → Bytes xs
 first_bytes xs ys s = subst Bytes (take_at xs ys (length xs) refl) (All-take _ (length xs) (xs ++ ys) s)
@@ -21,7 +21,7 @@ accounted s start = record { split = refl; valid = tt }
 accounted s (came {bs} {vs} {held} r more) =
     let a : Accounted bs vs held = accounted (first_bytes bs more s) r in
     record { split = ap (λ (x : List ℕ). x ++ more) a.split ∙ append_assoc (flat_map encode vs) held more; valid = a.valid }
-accounted s (told {bs} {vs} {held} r v e) =
+accounted s (shown {bs} {vs} {held} r v e) =
     let a : Accounted bs vs held = accounted s r in
     let h : Bytes held = last_bytes (flat_map encode vs) held (subst Bytes a.split s) in
     let f : Front v held = writes_back held v h e in

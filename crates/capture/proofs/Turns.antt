@@ -7,17 +7,17 @@ use Rattle.wire.specs.declared.faults.Fault.{Fault}
 use Rattle.wire.specs.declared.faults.Fault.TheVariants as F
 use Rattle.packet.specs.Values.{Value, encode, letter}
 use Rattle.packet.specs.Decoding.{decode}
-use Rattle.capture.specs.Finding.{Part, PacketAt, Tells}
-use Rattle.capture.specs.Runs.{Run, start, came, told}
+use Rattle.capture.specs.Finding.{Part, PacketAt, FindsFirst}
+use Rattle.capture.specs.Runs.{Run, start, came, shown}
 use Rattle.packet.specs.LetterCounts.{raised}
 use Rattle.capture.specs.declared.endings.Ending.{Ending}
 use Rattle.capture.specs.declared.endings.Ending.TheVariants as E
 use Rattle.capture.specs.declared.explainers.Explainer.{Explainer}
 use Rattle.capture.specs.Explained.{Knows, Went, Turned, More, Ends, Fresh, Reached, Explained, tallied}
 
-told_fault : (held : List ℕ) (fault : Fault) → Tells held (Err fault) → Ends held (E.Fault fault)
-told_fault held (F.Packet fault) e = e
-told_fault held (F.Log fault) e = e
+found_fault : (held : List ℕ) (fault : Fault) → FindsFirst held (Err fault) → Ends held (E.Fault fault)
+found_fault held (F.Packet fault) e = e
+found_fault held (F.Log fault) e = e
 
 tallied_push : (counts : List ℕ) (vs : List Value) (v : Value) → tallied counts (vs ++ v ∷ []) ≡ raised (tallied counts vs) (letter v)
 tallied_push counts [] v = refl
@@ -34,8 +34,8 @@ stay {old} {new} e c o bs vs r k =
     }
 
 -- a fault, or an output that takes no more: nothing has changed
-pub turned_fault : (e : Explainer) (fault : Fault) → Tells e.frame (Err fault) → Turned e e (Ok (Some (E.Fault fault)))
-turned_fault e fault h bs vs r k = (stay refl refl refl bs vs r k, told_fault e.frame fault h)
+pub turned_fault : (e : Explainer) (fault : Fault) → FindsFirst e.frame (Err fault) → Turned e e (Ok (Some (E.Fault fault)))
+turned_fault e fault h bs vs r k = (stay refl refl refl bs vs r k, found_fault e.frame fault h)
 
 pub turned_error : (e : Explainer) (error : Error) → Turned e e (Err error)
 turned_error e error bs vs r k = (stay refl refl refl bs vs r k, tt)
@@ -67,7 +67,7 @@ module _ (old new : Explainer) where
       let w : new.frame ≡ drop (length (encode v)) old.frame = e ∙ ap (λ (i : ℕ). drop i old.frame) p.takes in
       let j : flat_map encode vs ++ encode v ≡ flat_map encode ws = flat_map_more encode [] vs v in
       let l : length (flat_map encode ws) ≡ length (flat_map encode vs) + size = ap length (sym j) ∙ length-append (flat_map encode vs) (encode v) ∙ ap (λ (i : ℕ). length (flat_map encode vs) + i) (sym p.takes) in
-      let next : Run bs ws new.frame = subst (λ (x : List ℕ). Run bs ws x) (sym w) (told r v p.is) in (
+      let next : Run bs ws new.frame = subst (λ (x : List ℕ). Run bs ws x) (sym w) (shown r v p.is) in (
         record {
           more = [];
           packets = ws;

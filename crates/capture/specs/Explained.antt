@@ -13,17 +13,17 @@ use Rattle.capture.specs.declared.endings.Ending.TheVariants as E
 use Rattle.capture.specs.declared.endings.Summary.{Summary}
 use Rattle.capture.specs.declared.explainers.Explainer.{Explainer}
 
--- the counts of the packets told, one after the other
+-- the counts of the packets shown, one after the other
 abbrev pub tallied : List ℕ → List Value → List ℕ
 tallied counts [] = counts
 tallied counts (v ∷ vs) = tallied (raised counts (letter v)) vs
 
--- what an explainer knows after a run: each packet told is counted, and the offset is where they end
+-- what an explainer knows after a run: each packet shown is counted, and the offset is where they end
 pub record Knows (vs : List Value) (counts : List ℕ) (offset : ℕ) : Type 0 where
   pub counted : counts ≡ tallied (replicate 12 0) vs
   pub reached : offset ≡ min (length (flat_map encode vs)) (2 ^ 64 - 1)
 
--- nothing more can be told of what is held
+-- nothing more can be shown of what is held
 abbrev pub Ends : List ℕ → Ending → Type 0
 Ends held E.Clean = held ≡ []
 Ends held (E.Part n) = (0 < n) × (length held ≡ n) × (decode held ≡ Ok part)
@@ -34,7 +34,7 @@ Ends held (E.Fault (F.Log fault)) = ⊥
 abbrev pub Fresh : Explainer → Type 0
 Fresh e = (e.frame ≡ []) × (e.tally ≡ replicate 12 0) × (e.offset ≡ 0)
 
--- a run has gone on to here: more bytes came, or a packet was told, or both are as they were
+-- a run has gone on to here: more bytes came, or a packet was shown, or both are as they were
 pub record Went (bs : List ℕ) (vs : List Value) (e : Explainer) : Type 0 where
   pub more : List ℕ
   pub packets : List Value
@@ -45,7 +45,7 @@ pub record Went (bs : List ℕ) (vs : List Value) (e : Explainer) : Type 0 where
 abbrev pub progress : List ℕ → List Value → ℕ
 progress bs vs = length bs + length vs
 
--- no ending yet: something was read or told; else an ending that fits what is held
+-- no ending yet: something was read or shown; else an ending that fits what is held
 abbrev pub Answers : (bs : List ℕ) (vs : List Value) (e : Explainer) →
     Result (Option Ending) Error → Went bs vs e → Type 0
 Answers bs vs e (Ok None) w = progress bs vs < progress (bs ++ w.more) w.packets

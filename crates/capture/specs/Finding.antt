@@ -1,4 +1,4 @@
--- What is told of the bytes at the front of a capture.
+-- What is found at the front of a capture's bytes.
 use Rattle.std.specs.Prelude.{◌≡◌, ℕ, ◌<◌, List, ◌++◌, length, drop, Some, None, Ok, Err, Option, Result}
 use Rattle.wire.specs.declared.faults.Fault.{Fault}
 use Rattle.wire.specs.declared.faults.Fault.TheVariants as F
@@ -19,8 +19,8 @@ pub record PacketAt (bs : List ℕ) (v : Value) (size : ℕ) : Type 0 where
   pub takes : size ≡ length (encode v)
   pub front : bs ≡ encode v ++ drop size bs
 
-abbrev pub Tells : List ℕ → Result (Option Found) Fault → Type 0
-Tells bs (Ok None) = Part bs
-Tells bs (Ok (Some found)) = PacketAt bs (value_of found.packet) found.size
-Tells bs (Err (F.Packet fault)) = decode bs ≡ Err fault
-Tells bs (Err (F.Log fault)) = ⊥
+abbrev pub FindsFirst : List ℕ → Result (Option Found) Fault → Type 0
+FindsFirst bs (Ok None) = Part bs
+FindsFirst bs (Ok (Some found)) = PacketAt bs (value_of found.packet) found.size
+FindsFirst bs (Err (F.Packet fault)) = decode bs ≡ Err fault
+FindsFirst bs (Err (F.Log fault)) = ⊥

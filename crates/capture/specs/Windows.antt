@@ -2,7 +2,7 @@
 use Rattle.std.specs.Prelude.{◌≡◌, ℕ, ◌+◌, ◌-◌, List, length, take, drop, Ok, Err, Result}
 use Rattle.std.specs.declared.io.Error.{Error}
 
--- those of its memory from one place up to another
+-- those of its memory from one offset up to another
 abbrev pub window : List ℕ → ℕ → ℕ → List ℕ
 window memory from to = take (to - from) (drop from memory)
 

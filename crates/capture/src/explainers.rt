@@ -35,8 +35,8 @@ impl Explainer {
         }
     }
 
-    /// One step: tells the packet at the front of the frame, or reads more. Gives the ending where there is
-    /// nothing more to tell.
+    /// One step: shows the packet at the front of the frame, or reads more. Gives the ending where there is
+    /// nothing more to show.
     pub fn turn<R: Read, W: Write>(
         &mut self,
         heap: Global,
@@ -83,7 +83,7 @@ pub fn explain<R: Read, W: Write>(heap: Global, input: &mut R, out: &mut W) -> i
 {
     let mut explainer = Explainer::new();
     writeln!(out, "{:>10} {:>6}  {}", "offset", "bytes", "packet")?;
-    // The form for a loop that goes on to its input's end: no list or range has the turns. Each turn reads, or tells a
+    // The form for a loop that goes on to its input's end: no list or range has the turns. Each turn reads, or shows a
     // packet, or gives the ending.
     for _ in 0..u64::MAX {
         if let Some(ending) = explainer.turn(heap, input, out)? {

@@ -1,5 +1,5 @@
 //! The first packet of a capture's bytes.
-ghost use Rattle.capture.specs.Finding.{Tells};
+ghost use Rattle.capture.specs.Finding.{FindsFirst};
 
 use packet::{Packet, Reader};
 use wire::Fault;
@@ -13,7 +13,7 @@ pub struct Found<'a> {
 
 /// The first packet of the bytes, or `None` where they are only a part of one.
 pub fn find<'a>(bytes: &'a [u8]) -> Result<Option<Found<'a>>, Fault>
-    ensures { Tells bytes.now result }
+    ensures { FindsFirst bytes.now result }
 {
     let reader = Reader::new(bytes);
     let Some(size) = reader.packet_len()? else {

@@ -16,7 +16,7 @@ use std::marker::Model;
 use wire::PACKET_LIMIT;
 
 /// Bytes that were read and are not explained yet: as many as the longest packet has, and no more.
-// Fixed memory with two places in it: a frame holds one packet at most, and takes no heap.
+// Fixed memory with two offsets into it: a frame holds one packet at most, and takes no heap.
 #[derive(Drop)]
 pub struct Frame {
     memory: [u8; PACKET_LIMIT],
@@ -25,7 +25,7 @@ pub struct Frame {
 }
 
 /// A frame means the bytes that it holds.
-// A model shows callers no invariant, so each call tells it by a clause of its own, `short`.
+// A model shows callers no invariant, so each call states it by a clause of its own, `short`.
 impl Model for Frame {
     ghost Value = { List ℕ };
 
@@ -79,7 +79,7 @@ impl Frame {
     }
 }
 
-// Moves the bytes from one place up to another to the front of the memory, and gives their count.
+// Moves the bytes from one offset up to another to the front of the memory, and gives their count.
 fn settle(memory: &mut [u8], from: usize, to: usize) -> usize
     requires ordered { from ≤ to }
     requires within { to ≤ length memory.old }

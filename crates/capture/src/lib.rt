@@ -1,6 +1,6 @@
 //! A capture: the bytes of one direction of a connection, explained packet by packet.
 //!
-//! A `Frame` is filled from any input, `find` tells the first packet in it, and `Explainer` passes over packet after
+//! A `Frame` is filled from any input, `find` gives the first packet in it, and `Explainer` passes over packet after
 //! packet, counts each, and writes it in words; then it sums up. It holds one frame, however long the capture is.
 //! However the bytes come in pieces, the packets found are the same, and every byte belongs to one of them or to what
 //! is left in the frame.

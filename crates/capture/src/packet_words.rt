@@ -124,7 +124,7 @@ fn show_row<W: Write>(heap: Global, out: &mut W, bytes: &[u8]) -> io::Result<()>
     out.write_all(b"\n")
 }
 
-/// Writes the bytes that could not be told as a packet, if there are any: those of the part, or of the faulty
+/// Writes the bytes that could not be read as a packet, if there are any: those of the part, or of the faulty
 /// packet as far as its length number can be trusted.
 pub fn show_rest<W: Write>(heap: Global, out: &mut W, offset: u64, rest: &[u8]) -> io::Result<()> {
     let size = Reader::new(rest).packet_len().ok().flatten().unwrap_or(2);

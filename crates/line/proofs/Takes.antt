@@ -35,7 +35,7 @@ module _ {v w : LineView} {b f : List ℕ} {k : ℕ} (t : Taken v b k w f) where
   pub taken_whole : take k v.waiting ++ w.waiting ≡ v.waiting
   taken_whole = ap (λ q. take k v.waiting ++ q) t.rest ∙ take-append-drop k v.waiting
 
--- A take into the first n places of a buffer s, as a change of all of it.
+-- A take into the first n bytes of a buffer s, as a change of all of it.
 module _ {v w : LineView} {f : List ℕ} {k : ℕ} (s : List ℕ) (n : ℕ) (t : Taken v (take n s) k w f) where
   part_most : k ≤ length (take n s)
   part_most = omega (arith, t.count)

@@ -1,4 +1,4 @@
--- Reading and writing round the end of a list of places.
+-- Reading and writing round the end of a list of bytes.
 use Rattle.std.specs.Prelude.{◌≡◌, ℕ, ◌+◌, ◌-◌, ◌<◌, ◌≤◌, ◌⊎◌, List, ◌++◌, length, take, drop, refl}
 use Rattle.std.proofs.Common.{sym, ap, ◌∙◌, append_assoc, append-nil, inl, inr, arith, length-drop, length-take, length-append, take-add}
 use borrow.Rule.Slice.PartMut.{put_mid}
@@ -29,7 +29,7 @@ module _ (xs : List ℕ) (start count : ℕ) (h : start ≤ length xs) where
   pub ringed_length : count ≤ length xs → length (ringed xs start count) ≡ count
   ringed_length l = simp (length-take, length-drop, length-append) (omega arith)
 
--- The first k bytes, and then the rest from the place k on.
+-- The first k bytes, and then the rest from byte k on.
 pub ringed_split : (xs : List ℕ) (start count k to : ℕ) → k ≤ count → count ≤ length xs →
     start < length xs →
     Onward start k (length xs) to → ringed xs start count ≡ ringed xs start k ++ ringed xs to (count - k)

@@ -8,11 +8,11 @@ use Rattle.line.proofs.Takes.{same_view, put_granted}
 use Rattle.lines.specs.Rings.{InRing, Onward, LaidRound, ringed, ring_view}
 use Rattle.lines.specs.RingParts.{ringed_length, ringed_split, ringed_put}
 
-module _ (places : List ℕ) (size start count : ℕ) (long : length places ≡ size) (ok : InRing size start count) where
-  pub waits : length (ringed places start count) ≡ count
-  waits = ringed_length places start count (omega (arith, ok.0)) (omega (arith, ok.1))
+module _ (memory : List ℕ) (size start count : ℕ) (long : length memory ≡ size) (ok : InRing size start count) where
+  pub waits : length (ringed memory start count) ≡ count
+  waits = ringed_length memory start count (omega (arith, ok.0)) (omega (arith, ok.1))
 
-  pub ring_sound : Sound (ring_view places size start count)
+  pub ring_sound : Sound (ring_view memory size start count)
   ring_sound =
       record {
         empty = λ e. let z : count ≡ 0 = sym waits ∙ ap length e in omega arith;
@@ -23,29 +23,29 @@ module _ (places : List ℕ) (size start count : ℕ) (long : length places ≡ 
 
   pub ring_put : (at : ℕ) (piece after : List ℕ) → length piece ≤ size - count →
       Onward start count size at →
-      LaidRound places at piece after → Put (ring_view places size start count) piece (Ok tt) (ring_view after size start (count + length piece))
+      LaidRound memory at piece after → Put (ring_view memory size start count) piece (Ok tt) (ring_view after size start (count + length piece))
   ring_put at piece after h g l =
       put_granted h
       (same_view size packet_limit
-      (ringed_put places start count at piece after (omega (arith, ok.0)) (omega (arith, ok.1))
+      (ringed_put memory start count at piece after (omega (arith, ok.0)) (omega (arith, ok.1))
       (subst (λ n. Onward start count n at) (sym long) g) l)
       (omega arith))
 
   pub ring_take : (buffer filled : List ℕ) (k to : ℕ) →
       k ≡ min (min count (length buffer)) packet_limit → Onward start k size to →
-      filled ≡ ringed places start k ++ drop k buffer →
-      Taken (ring_view places size start count) buffer k (ring_view places size to (count - k)) filled
+      filled ≡ ringed memory start k ++ drop k buffer →
+      Taken (ring_view memory size start count) buffer k (ring_view memory size to (count - k)) filled
   ring_take buffer filled k to e g f =
       let kc : k ≤ count = omega arith in
-      let rest = ringed places to (count - k) in
-      let whole : ringed places start count ≡ ringed places start k ++ rest =
-      ringed_split places start count k to kc (omega (arith, ok.1)) (omega (arith, ok.0))
+      let rest = ringed memory to (count - k) in
+      let whole : ringed memory start count ≡ ringed memory start k ++ rest =
+      ringed_split memory start count k to kc (omega (arith, ok.1)) (omega (arith, ok.0))
       (subst (λ n. Onward start k n to) (sym long) g) in
-      let lk : length (ringed places start k) ≡ k = ringed_length places start k (omega (arith, ok.0)) (omega (arith, ok.1)) in
+      let lk : length (ringed memory start k) ≡ k = ringed_length memory start k (omega (arith, ok.0)) (omega (arith, ok.1)) in
       record {
         count = e ∙ ap (λ n. min (min n (length buffer)) packet_limit) (sym waits);
-        front = f ∙ ap (λ q. q ++ drop k buffer) (sym (ap (take k) whole ∙ take_at (ringed places start k) rest k lk));
-        rest = sym (ap (drop k) whole ∙ drop_at (ringed places start k) rest k lk);
+        front = f ∙ ap (λ q. q ++ drop k buffer) (sym (ap (take k) whole ∙ take_at (ringed memory start k) rest k lk));
+        rest = sym (ap (drop k) whole ∙ drop_at (ringed memory start k) rest k lk);
         room = omega arith;
         full = refl;
         limit = refl;

@@ -1,4 +1,4 @@
--- Places that are filled from the front, as a line.
+-- Memory that is filled from the front, as a line.
 use Rattle.std.specs.Prelude.{◌≡◌, ℕ, ◌-◌, ◌≤◌, cond, List, length, take, drop, ◌==◌}
 use Rattle.line.specs.Lines.{LineView}
 use Rattle.line.specs.Sizes.{LineSize}
@@ -9,9 +9,9 @@ InOrder size start end = (start ≤ end) × (end ≤ size) × (start ≡ end →
 
 -- The meaning of a straight line: the room is what lies behind the end, the limit is one byte.
 abbrev pub straight_view : List ℕ → ℕ → ℕ → ℕ → LineView
-straight_view places size start end =
+straight_view memory size start end =
     record {
-      waiting = take (end - start) (drop start places);
+      waiting = take (end - start) (drop start memory);
       room = size - end;
       full = size;
       limit = 1;

@@ -26,7 +26,8 @@ impl Ring {
     /// An empty line over the memory given, whose length is the full size. A size outside the rules is refused.
     pub fn new(bytes: Vec<u8>) -> Result<Ring, Unmade<Vec<u8>>>
         ensures { let empty = fresh (vec_len bytes) packet_limit in
-            Makes (LineSize (vec_len bytes)) (λ s. ⟦<Ring as Line>⟧.view s ≡ empty) bytes result }
+            let allowed = LineSize (vec_len bytes) in
+            Makes allowed (λ s. ⟦<Ring as Line>⟧.view s ≡ empty) bytes result }
     {
         let bytes = allow(is_line_size(bytes.len()), bytes)?;
         Ok(Ring {
@@ -40,7 +41,8 @@ impl Ring {
 impl Line for Ring {
     ghost view = { λ s. ring_view s.bytes.items (vec_len s.bytes) s.start s.count };
 
-    ghost sound = { λ s. ring_sound s.bytes.items s.bytes.len s.start s.count (sym s.bytes.ok.0) s.ok };
+    ghost sound = { λ s. ring_sound s.bytes.items s.bytes.len s.start s.count
+        (sym s.bytes.ok.0) s.ok };
 
     fn waiting(&self) -> usize {
         self.count

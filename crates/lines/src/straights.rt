@@ -24,7 +24,8 @@ impl Straight {
     /// An empty line over the memory given, whose length is the full size. A size outside the rules is refused.
     pub fn new(bytes: Vec<u8>) -> Result<Straight, Unmade<Vec<u8>>>
         ensures { let empty = fresh (vec_len bytes) 1 in
-            Makes (LineSize (vec_len bytes)) (λ s. ⟦<Straight as Line>⟧.view s ≡ empty) bytes result }
+            let allowed = LineSize (vec_len bytes) in
+            Makes allowed (λ s. ⟦<Straight as Line>⟧.view s ≡ empty) bytes result }
     {
         let bytes = allow(is_line_size(bytes.len()), bytes)?;
         Ok(Straight {
@@ -38,7 +39,8 @@ impl Straight {
 impl Line for Straight {
     ghost view = { λ s. straight_view s.bytes.items (vec_len s.bytes) s.start s.end };
 
-    ghost sound = { λ s. straight_sound s.bytes.items s.bytes.len s.start s.end (sym s.bytes.ok.0) s.ok };
+    ghost sound = { λ s. straight_sound s.bytes.items s.bytes.len s.start s.end
+        (sym s.bytes.ok.0) s.ok };
 
     fn waiting(&self) -> usize {
         self.end - self.start

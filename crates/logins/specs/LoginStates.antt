@@ -5,7 +5,7 @@ use Rattle.wire.specs.declared.statuses.Status.TheVariants as S
 use Rattle.account.specs.declared.rows.Row.{Row}
 use Rattle.account.specs.Rows.{found, marking}
 use Rattle.account.specs.Logins.{Asked, status_for}
-use Rattle.account.specs.Table.{joining, place_of, joined}
+use Rattle.account.specs.Table.{joining, index_of, joined}
 use Rattle.logins.specs.declared.login_states.Reply.{Reply}
 use Rattle.logins.specs.declared.login_states.LoginState.{LoginState}
 use Rattle.logins.specs.declared.login_states.Reply.TheVariants.{Added, Noted, Decided, LoggedOut}
@@ -29,7 +29,7 @@ abbrev pub decided : LoginView → Asked → Status
 decided state asked = status_for state.rows state.session state.highest asked
 
 abbrev pub replied : LoginView → Order → Reply
-replied state (account u c p) = Added (place_of state.rows (joining state.rows u c p))
+replied state (account u c p) = Added (index_of state.rows (joining state.rows u c p))
 replied state (hub s h) = Noted
 replied state (login asked) = Decided (decided state asked)
 replied state (logout u c) = LoggedOut (found state.rows u c)

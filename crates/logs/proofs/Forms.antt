@@ -1,4 +1,4 @@
--- The saved form tells the log: where a saved log goes on, a record stands.
+-- The saved form determines the log: where a saved log goes on, a record stands.
 use Rattle.std.proofs.Common.{◌≡◌, ℕ, suc, ◌-◌, ◌<◌, ◌≤◌, List, [], ◌∷◌, ◌++◌, length, get_or, take, drop, is_some, Err, sym, refl, ap, ◌∙◌, inl, inr, arith}
 use Rattle.std.specs.List.{flat_map}
 use Rattle.std.proofs.lemmas.List.{append_assoc, append_cancel_left, take-append-drop, take-take, take_all, drop-append-le, length-append, length-take-le, length-drop}
@@ -100,5 +100,5 @@ broken_has_a_fault b x (later s ms p f sav is lt e) =
     let whole : b ≡ saved s ms ++ drop p b = sym (take-append-drop p b) ∙ ap (λ t. t ++ drop p b) is in
     let session : get_or b 4 0 ≡ s = ap (λ t. get_or t 4 0) whole in
     let long : p ≡ length (saved s ms) = sym (length-take-le p b (omega arith)) ∙ ap length is in
-    let told = fault_later b p (λ z. omega arith) (omega arith) (omega arith) in
-    ap is_some told ∙ (ap (λ k. is_some (fault_in (message_of k (drop p b)))) session ∙ ap (λ r. is_some (fault_in r)) e)
+    let fault = fault_later b p (λ z. omega arith) (omega arith) (omega arith) in
+    ap is_some fault ∙ (ap (λ k. is_some (fault_in (message_of k (drop p b)))) session ∙ ap (λ r. is_some (fault_in r)) e)

@@ -1,4 +1,4 @@
--- The saved form tells everything: no two logs have the same form, no saved log is broken, and broken bytes are
+-- The saved form determines everything: no two logs have the same form, no saved log is broken, and broken bytes are
 -- broken at one place.
 use Rattle.std.specs.Prelude.{◌≡◌, ℕ, true, List, is_some}
 use Rattle.logs.specs.Format.{saved}
@@ -17,7 +17,7 @@ SavedIsSound =
 abbrev pub BrokenOnce : Type 0
 BrokenOnce = (bytes : List ℕ) (p q : ℕ) → Broken bytes p → Broken bytes q → p ≡ q
 
--- what is wrong there can be told
+-- what is wrong there can be said
 abbrev pub BrokenHasAFault : Type 0
 BrokenHasAFault =
     (bytes : List ℕ) (place : ℕ) → Broken bytes place → is_some (fault_at bytes place) ≡ true

@@ -19,7 +19,7 @@ mark_of x y =
     cond (is_mark Session x y) (Ok Session)
     (cond (is_mark Message x y) (Ok Message) (Err UnknownMark))
 
--- the length that a record's head tells
+-- the length that a record's head says
 abbrev pub length_of : List ℕ → ℕ
 length_of b = number (slice_index b 2 ∷ slice_index b 3 ∷ [])
 

@@ -7,7 +7,7 @@ use Rattle.wire.specs.Overlay.{laid}
 use Rattle.wire.specs.Limits.{message_limit}
 use Rattle.message_log.specs.Meaning.{Meaning, room, nth, count}
 
--- the answer to a message of n bytes, by the session, the room, the places left and the overhead
+-- the answer to a message of n bytes, by the session, the room, the slots left and the overhead
 abbrev pub verdict : ℕ → ℕ → ℕ → ℕ → ℕ → Result (Unit {0}) Refusal
 verdict s free left over n =
     cond (nat_lt message_limit n) (Err MessageTooLong)

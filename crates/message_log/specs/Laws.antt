@@ -5,7 +5,7 @@ use Rattle.wire.specs.Limits.{message_limit}
 use Rattle.message_log.specs.Meaning.{Meaning, room, count, nth}
 use Rattle.message_log.specs.Calls.{takes, measured}
 
--- a message is short enough, has room and a place, and there is a session
+-- a message is short enough, has room and a slot, and there is a session
 pub record Fit (l : Meaning) (n : ℕ) : Type 0 where
   pub short : n ≤ message_limit
   pub roomy : n + l.overhead ≤ room l
@@ -17,7 +17,7 @@ abbrev pub TakenJustWhen : Type 0
 TakenJustWhen =
     (l : Meaning) (n : ℕ) → (Fit l n → takes l n ≡ Ok tt) × (takes l n ≡ Ok tt → Fit l n)
 
--- too long is told before full, and full before no session
+-- too long is reported before full, and full before no session
 abbrev pub RefusedInOrder : Type 0
 RefusedInOrder = (l : Meaning) (n : ℕ) →
     (message_limit < n → takes l n ≡ Err MessageTooLong)

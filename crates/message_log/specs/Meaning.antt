@@ -2,7 +2,7 @@
 use Rattle.std.specs.Prelude.{◌≡◌, ℕ, ◌+◌, ◌-◌, ◌<◌, ◌≤◌, List, [], ◌∷◌, ◌++◌, length, sum_by, slice_index, slice_index_or}
 use Rattle.wire.specs.Limits.{message_limit}
 
--- the session is 0 for none; the overhead is what each message takes beside its own bytes; a place is needed for each message
+-- the session is 0 for none; the overhead is what each message takes beside its own bytes; a slot is needed for each message
 pub record Meaning : Type 0 where
   pub session : ℕ
   pub messages : List (List ℕ)
@@ -10,7 +10,7 @@ pub record Meaning : Type 0 where
   pub overhead : ℕ
   pub places : ℕ
 
--- the largest size, overhead and number of places
+-- the largest size, overhead and number of slots
 abbrev pub size_limit : ℕ
 size_limit = 16777216
 

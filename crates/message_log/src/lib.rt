@@ -2,7 +2,7 @@
 //!
 //! A log means a **session** (1 to 255, or 0 for none), a list of **messages**, and three numbers that stay as
 //! they were when it was made: its **size** in bytes, its **overhead** (what each message takes beside its own
-//! bytes) and its **places** (how many messages it can hold). Its **room** is the size less what the messages
+//! bytes) and its **slots** (how many messages it can hold). Its **room** is the size less what the messages
 //! take. Code above this crate is written for any log and rests on that meaning alone.
 //!
 //! Left out: how a log keeps its messages. In the order a reader meets them: `Log`, `Space` (what a log has left,

@@ -5,7 +5,7 @@ ghost use Rattle.message_log.specs.Calls.{takes, begins, settled, measured, read
 
 use wire::Refusal;
 
-/// The largest size of a log in bytes, and the largest overhead and number of places.
+/// The largest size of a log in bytes, and the largest overhead and number of slots.
 pub const SIZE_LIMIT: usize = 16_777_216;
 
 /// A log: a session and a list of messages, numbered from 1.

@@ -12,22 +12,22 @@ pub struct Space {
     pub session: u8,
     /// The bytes that are free.
     pub room: usize,
-    /// The places that are free.
-    pub places: usize,
+    /// The slots that are free.
+    pub slots: usize,
     /// What each message takes beside its own bytes.
     pub overhead: usize,
 }
 
 impl Space {
-    /// Whether a message of so many bytes is taken, and if not why: too long, no room or place, no session.
+    /// Whether a message of so many bytes is taken, and if not why: too long, no room or slot, no session.
     pub fn judge(self, bytes: usize) -> Result<(), Refusal>
-        ensures { result ≡ verdict self.session self.room self.places self.overhead bytes }
+        ensures { result ≡ verdict self.session self.room self.slots self.overhead bytes }
     {
         if bytes > MESSAGE_LIMIT {
             return Err(Refusal::MessageTooLong);
         }
         let taken = bytes.checked_add(self.overhead);
-        if taken.is_none_or(|taken| taken > self.room) || self.places == 0 {
+        if taken.is_none_or(|taken| taken > self.room) || self.slots == 0 {
             return Err(Refusal::LogFull);
         }
         if self.session == 0 {

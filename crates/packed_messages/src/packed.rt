@@ -108,7 +108,7 @@ impl<const BASE: usize, const GAP: usize> PackedMessages<BASE, GAP> {
         let space = Space {
             session: self.session,
             room: self.memory.len() - self.used,
-            places: self.slots - self.count,
+            slots: self.slots - self.count,
             overhead: GAP,
         };
         space.judge(bytes)
@@ -150,7 +150,8 @@ impl<const BASE: usize, const GAP: usize> PackedMessages<BASE, GAP> {
     pub fn append(&mut self, head: [u8; GAP], message: &[u8]) -> Result<(), Refusal>
         ensures value { result ≡ judged GAP (packed_of self.old) (length message.now) }
         ensures after { let before = packed_of self.old in
-            packed_of self.new ≡ settled result (extended (head.entry ++ message.now) before) before }
+            let piece = head.entry ++ message.now in
+            packed_of self.new ≡ settled result (extended piece before) before }
     {
         self.would_take(message.len())?;
         let at = self.used;

@@ -13,7 +13,7 @@ use Rattle.wire.proofs.Coded.{letter_back}
 use Rattle.packet.specs.Values.{framed}
 use Rattle.packet.specs.Decoding.{decode, counted, head_number, bodied, opened, content, wholly, next}
 
--- the limit's number has two bytes: the one place that asks how large the limit is
+-- the limit's number has two bytes: nothing else asks how large the limit is
 pub limit_fits : length_limit < 256 ^ 2
 limit_fits = omega arith
 
@@ -32,7 +32,7 @@ longest_within L.HubHeartbeat = omega arith
 longest_within L.SeatHeartbeat = omega arith
 longest_within L.Test = omega arith
 
--- what `allowed` tells
+-- what `allowed` says
 pub record Within (l : Letter) (n : ℕ) : Type 0 where
   pub low : shortest l ≤ n
   pub high : n ≤ longest l

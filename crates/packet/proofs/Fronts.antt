@@ -13,7 +13,7 @@ use Rattle.wire.specs.Codes.{status_byte, status_of, statuses, logout_byte, logo
 use Rattle.wire.proofs.Coded.{cut, coded_fault}
 use Rattle.packet.specs.Values.{Value, Valid, encode, letter, length_number}
 use Rattle.packet.specs.Decoding.{Decoded, decode, counted, head_number, bodied, opened, content, part, whole, wholly, next}
-use Rattle.packet.specs.Laws.{Bytes, Front, IgnoresRest, BeginningsAreParts, TellsEarly, Phaseless, KnowsNoPhase, Told}
+use Rattle.packet.specs.Laws.{Bytes, Front, IgnoresRest, BeginningsAreParts, ReportsEarly, Phaseless, KnowsNoPhase, Reads}
 use Rattle.packet.proofs.Framing.{within, counted_good, head_of_little}
 use Rattle.packet.proofs.Back.{length_encode}
 use Rattle.packet.proofs.Forth.{counted_forth, writes_back}
@@ -94,8 +94,8 @@ beginnings_are_parts v k h l =
           ∙ bodied_part xs n (omega (arith, length_encode v))
     ]
 
-pub tells_early : TellsEarly
-tells_early bs h =
+pub reports_early : ReportsEarly
+reports_early bs h =
     let head : decode bs ≡ next (counted (head_number bs)) (bodied bs) = decode_head bs h in
     record {
       zero = λ z. head ∙ ap (λ r. next r (bodied bs)) (cond-true _ _ _ (eq-eqb (head_number bs) 0 z));
@@ -153,8 +153,8 @@ knows_no_phase bs q =
     (λ u. failed (opened (get_or bs 2 0) (take (n - 1) (drop 3 bs))) _ q (Phaseless q) (opened_phaseless q (get_or bs 2 0) (take (n - 1) (drop 3 bs))) (λ v f. fine q (whole v)))))
 
 -- all the laws, of one reading
-pub told : (bs : List ℕ) (r : Result Decoded PacketFault) → Bytes bs → r ≡ decode bs → Told bs r
-told bs r s e =
+pub reads : (bs : List ℕ) (r : Result Decoded PacketFault) → Bytes bs → r ≡ decode bs → Reads bs r
+reads bs r s e =
     record {
       answer = e;
       front = λ v q. writes_back bs v s (sym e ∙ q);
@@ -162,6 +162,6 @@ told bs r s e =
           let t : take k bs ≡ take k (encode v) = ap (take k) f.written ∙ take-append-le k (encode v) (drop (length (encode v)) bs) (omega arith) in
           ap decode t ∙ beginnings_are_parts v k f.valid l;
       rest = λ more never. ignores_rest bs more (λ q. never (e ∙ q)) ∙ sym e;
-      early = tells_early bs;
+      early = reports_early bs;
       phaseless = λ fault q. knows_no_phase bs fault (sym e ∙ q);
     }

@@ -1,10 +1,10 @@
--- Bytes laid over others from a place on.
+-- Bytes laid over others from an offset on.
 use Rattle.std.proofs.Common.{◌≡◌, ℕ, ◌+◌, ◌≤◌, List, ◌∷◌, ◌++◌, length, drop, ap, ◌∙◌, arith}
 use Rattle.std.proofs.lemmas.List.{drop-drop}
 use Rattle.wire.specs.Overlay.{laid, overlaid}
 use Rattle.wire.proofs.Laid.{overlaid_is, length_laid, laid_laid}
 
--- one piece right after another, as two writes tell it
+-- one piece right after another, as two writes leave it
 pub then : (l o p x y : List ℕ) (at to : ℕ) → at ≤ length l → to ≡ at + length x → o ≡ laid l at x → p ≡ laid o to y → p ≡ laid l at (x ++ y)
 then l o p x y at to h q e f = f ∙ ap (λ (r : List ℕ). laid r to y) e ∙ laid_laid l x y at to h q
 

@@ -1,4 +1,4 @@
--- What the length number alone tells of a packet.
+-- What the length number alone says of a packet.
 use Rattle.std.proofs.Common.{◌≡◌, ℕ, ◌+◌, ◌-◌, ◌<◌, ◌≤◌, ltb, List, ◌++◌, length, get_or, take, drop, Some, None, Ok, Err, sym, ap, ◌∙◌, inl, inr, arith, length-append}
 use Rattle.std.proofs.lemmas.Bool.{cases_lt, le-ltb, ltb-true, ltb-false, cond-false}
 use Rattle.wire.specs.declared.faults.PacketFault.{PacketFault}
@@ -15,7 +15,7 @@ length_head : (bs : List ℕ) → 2 ≤ length bs → packet_length bs ≡ next 
 unfolding packet_length
 length_head bs h = cond-false _ _ _ (le-ltb (length bs) 2 h)
 
--- a written packet's length is told by its first two bytes
+-- a written packet's length stands in its first two bytes
 pub length_of_encode : (v : Value) (rest : List ℕ) → Valid v → packet_length (encode v ++ rest) ≡ Ok (Some (length (encode v)))
 length_of_encode v rest h =
     let n : ℕ = length_number v in

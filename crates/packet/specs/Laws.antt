@@ -33,15 +33,15 @@ abbrev pub BeginningsAreParts : Type 0
 BeginningsAreParts =
     (v : Value) (k : ℕ) → Valid v → k < length (encode v) → decode (take k (encode v)) ≡ Ok part
 
--- a length number that is 0 or over the limit is told as soon as its two bytes are in
-pub record ToldEarly (bs : List ℕ) : Type 0 where
+-- a length number that is 0 or over the limit is reported as soon as its two bytes are in
+pub record ReportedEarly (bs : List ℕ) : Type 0 where
   pub zero : head_number bs ≡ 0 → decode bs ≡ Err LengthZero
   pub over : length_limit < head_number bs → decode bs ≡ Err LengthOverLimit
 
-abbrev pub TellsEarly : Type 0
-TellsEarly = (bs : List ℕ) → 2 ≤ length bs → ToldEarly bs
+abbrev pub ReportsEarly : Type 0
+ReportsEarly = (bs : List ℕ) → 2 ≤ length bs → ReportedEarly bs
 
--- the faults that a reader can tell which knows of no phase: no letter is out of place, and a content is
+-- the faults that a reader can report which knows of no phase: no letter is out of place, and a content is
 -- wrong only in a status or a reason
 abbrev pub Phaseless : PacketFault → Type 0
 Phaseless OutOfPlace = ⊥
@@ -54,7 +54,7 @@ abbrev pub KnowsNoPhase : Type 0
 KnowsNoPhase = (bs : List ℕ) (fault : PacketFault) → decode bs ≡ Err fault → Phaseless fault
 
 -- all of it, of one reading
-pub record Told (bs : List ℕ) (r : Result Decoded PacketFault) : Type 0 where
+pub record Reads (bs : List ℕ) (r : Result Decoded PacketFault) : Type 0 where
   -- the answer is what the bytes mean
   pub answer : r ≡ decode bs
   -- a packet that is accepted stands at the front as it is written
@@ -64,7 +64,7 @@ pub record Told (bs : List ℕ) (r : Result Decoded PacketFault) : Type 0 where
       decode (take k bs) ≡ Ok part
   -- bytes after the packet change nothing
   pub rest : (more : List ℕ) → (r ≢ Ok part) → decode (bs ++ more) ≡ r
-  -- a bad length number is told by its two bytes
-  pub early : 2 ≤ length bs → ToldEarly bs
-  -- no fault is told that only an end in a phase can tell
+  -- a bad length number is reported by its two bytes
+  pub early : 2 ≤ length bs → ReportedEarly bs
+  -- no fault is reported that only an end in a phase can report
   pub phaseless : (fault : PacketFault) → r ≡ Err fault → Phaseless fault

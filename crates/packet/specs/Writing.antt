@@ -28,7 +28,7 @@ abbrev pub granting : Result ℕ PacketFault → Result ℕ Refusal
 granting (Ok n) = Ok (n + 2)
 granting (Err fault) = Err (BadPacket fault)
 
--- a short buffer is told first, then a packet that could not be read back; else the packet's length
+-- a short buffer is reported first, then a packet that could not be read back; else the packet's length
 abbrev pub writing : Value → ℕ → Result ℕ Refusal
 writing v room = cond (nat_lt room (length_number v + 2)) (Err ShortBuffer) (granting (writable v))
 

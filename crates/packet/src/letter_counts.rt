@@ -32,21 +32,21 @@ impl LetterCounts {
     pub fn note(&mut self, letter: Letter)
         ensures { self.new ≡ raised self.old letter }
     {
-        let place = place_of(letter);
-        self.counts[place] = self.counts[place].saturating_add(1);
+        let index = index_of(letter);
+        self.counts[index] = self.counts[index].saturating_add(1);
     }
 
     /// How many packets with this letter there were.
     pub fn count(&self, letter: Letter) -> u64
         ensures { result ≡ slice_index self.now (ordinal letter) }
     {
-        self.counts[place_of(letter)]
+        self.counts[index_of(letter)]
     }
 }
 
-// Where a letter's count stands. The number that the enum gives a letter is its byte on the wire, and no place; a search
+// Where a letter's count stands. The number that the enum gives a letter is its byte on the wire, and no index; a search
 // in `LETTERS` would answer an `Option`.
-fn place_of(letter: Letter) -> usize
+fn index_of(letter: Letter) -> usize
     ensures { result ≡ ordinal letter }
 {
     match letter {

@@ -5,7 +5,7 @@ ghost use Rattle.wire.specs.Limits.{length_limit};
 ghost use Rattle.wire.specs.Numbers.{number as number_of};
 ghost use Rattle.wire.specs.Letters.{allowed};
 ghost use Rattle.packet.specs.Decoding.{counted, content as content_of, opened as opened_of, decode, packet_length};
-ghost use Rattle.packet.specs.Laws.{Told};
+ghost use Rattle.packet.specs.Laws.{Reads};
 ghost use Rattle.packet.specs.Meanings.{values_of, answer_of};
 
 use crate::packets::{Login, Packet};
@@ -37,11 +37,11 @@ impl<'a> Reader<'a> {
         }
     }
 
-    /// The first packet, or `None` while it is not all there yet. A length number that is 0 or too large is told
+    /// The first packet, or `None` while it is not all there yet. A length number that is 0 or too large is reported
     /// as soon as its two bytes are in; any other fault, once the packet is whole.
     #[inline(always)]
     pub fn read(&self) -> Result<Option<Packet<'a>>, PacketFault>
-        ensures { Told self.now.bytes.now (answer_of result) }
+        ensures { Reads self.now.bytes.now (answer_of result) }
     {
         first(self.bytes)
     }
@@ -50,7 +50,7 @@ impl<'a> Reader<'a> {
 // The first packet of the bytes, with all that holds of such a reading.
 #[inline(always)]
 fn first<'a>(bytes: &'a [u8]) -> Result<Option<Packet<'a>>, PacketFault>
-    ensures { Told bytes.now (answer_of result) }
+    ensures { Reads bytes.now (answer_of result) }
 {
     taken_apart(bytes)
 }

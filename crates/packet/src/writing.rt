@@ -1,7 +1,7 @@
 //! The writer: a packet at the front of a lent buffer.
 //!
 //! ```text
-//! place   0        2       3
+//! offset  0        2       3
 //!         +--------+-------+----------------------+ - - - - - - - - +
 //!         | length | letter| body                 | left untouched  |
 //!         +--------+-------+----------------------+ - - - - - - - - +

@@ -18,7 +18,7 @@ steps_then a (more b c) = more (steps_then a b) c
 abbrev answered : Bool → Result (Unit {0}) Refusal
 answered b = cond b (Ok tt) (Err LineFull)
 
--- what a granted put and a refused put tell
+-- what a granted put and a refused put say
 granted_by : (b : Bool) (v : LineView) {w : LineView} (p : List ℕ) → Ok tt ≡ answered b → w ≡ cond b (joined v p) v → w ≡ joined v p
 granted_by true v p e h = h
 granted_by false v p e h = cc

@@ -15,7 +15,7 @@ abbrev pub held : Slot → List ℕ
 held s = take s.length s.bytes
 
 -- The log that the first n slots hold. The size is that of all slots, a message takes nothing beside its bytes, and
--- a place is a slot.
+-- each has a slot of its own.
 abbrev pub slotted : ℕ → List Slot → ℕ → Meaning
 slotted session slots n =
     record {
@@ -29,6 +29,6 @@ slotted session slots n =
 -- So many slots are left. A message that is not too long is taken just while there is one, and a session: the room
 -- refuses none.
 pub record Left (l : Meaning) (left : ℕ) : Type 0 where
-  pub places : count l + left ≡ l.places
+  pub slots : count l + left ≡ l.places
   pub answer : (n : ℕ) → n ≤ message_limit →
       takes l n ≡ cond (left == 0) (Err LogFull) (cond (l.session == 0) (Err NoSession) (Ok tt))

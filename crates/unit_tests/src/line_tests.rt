@@ -17,7 +17,7 @@ fn smallest<L, F: FnOnce(Vec<u8>) -> Result<L, Unmade<Vec<u8>>>>(
     Ok(new(vec![in heap; 0u8; SMALLEST_SIZE]?)?)
 }
 
-/// A ring on which `hello` waits, its first two bytes at the last places and the others at the first.
+/// A ring on which `hello` waits, its first two bytes at the end of the memory and the others at the front.
 fn wrapped(heap: Global) -> Result<Ring, Refusal> {
     let mut line = smallest(heap, Ring::new)?;
     let mut buffer = vec![in heap; 0u8; SMALLEST_SIZE - 2]?;

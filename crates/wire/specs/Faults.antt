@@ -1,4 +1,4 @@
--- Faults: their layers, the numbers of their causes, and their places.
+-- Faults: their layers, the numbers of their causes, and their bytes.
 use Rattle.std.specs.Prelude.{ℕ}
 use Rattle.wire.specs.declared.faults.Field.{Field}
 use Rattle.wire.specs.declared.faults.Field.TheVariants.{Status, Reason, Session, SequenceNumber, Start, End}
@@ -20,7 +20,7 @@ field_place SequenceNumber = 3
 field_place Start = 3
 field_place End = 11
 
--- a packet's causes, in the order in which they are told
+-- a packet's causes, in the order in which they are reported
 abbrev pub packet_cause : PacketFault → ℕ
 packet_cause LengthZero = 1
 packet_cause LengthOverLimit = 2

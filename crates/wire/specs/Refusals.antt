@@ -27,13 +27,13 @@ number NothingToFetch = 28
 number AccountTaken = 29
 number OutOfMemory = 30
 
--- the fault that a refusal tells of: a bad packet, or a full log
+-- the fault that a refusal reports: a bad packet, or a full log
 abbrev pub fault_of : Refusal → Option Fault
 fault_of (BadPacket fault) = Some (F.Packet fault)
 fault_of LogFull = Some (F.Log Full)
 fault_of other = None
 
--- the refusal that tells of a fault
+-- the refusal that reports a fault
 abbrev pub refusal_of : Fault → Refusal
 refusal_of (F.Packet fault) = BadPacket fault
 refusal_of (F.Log Full) = LogFull

@@ -49,7 +49,7 @@ pub enum PacketFault {
 /// What is wrong with a log.
 #[derive(Clone, Copy, PartialEq, Eq, Debug, Error)]
 pub enum LogFault {
-    /// It has no room or no place for one message more.
+    /// It has no room or no slot for one message more.
     #[error("the log is full")]
     Full,
 }

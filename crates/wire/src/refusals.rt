@@ -8,7 +8,7 @@ use std::alloc::AllocError;
 use thiserror::Error;
 
 /// Why a call was refused. First what the call was given, then what it met, each in the order in which a
-/// call tells them.
+/// call reports them.
 #[derive(Clone, Copy, PartialEq, Eq, Debug, Error)]
 pub enum Refusal {
     /// A message is longer than the longest one.
@@ -35,7 +35,7 @@ pub enum Refusal {
     /// A packet is faulty, or would be read back as another or as none.
     #[error("bad packet: {0}")]
     BadPacket(PacketFault),
-    /// The log has no room or no place for one message more.
+    /// The log has no room or no slot for one message more.
     #[error("the log is full")]
     LogFull,
     /// The line has no room for this.
@@ -94,7 +94,7 @@ impl Refusal {
         }
     }
 
-    /// The fault that it tells of, if it tells of one: a bad packet, or a full log.
+    /// The fault that it reports, if it reports one: a bad packet, or a full log.
     pub fn fault(self) -> Option<Fault>
         ensures { result ≡ fault_of self }
     {

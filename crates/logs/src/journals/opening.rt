@@ -63,7 +63,8 @@ impl Journal {
     /// An empty journal without a session in this memory.
     pub fn new(heap: Global, memory: Vec<u8>) -> Result<Journal, Unmade<Vec<u8>>>
         ensures { let empty = journal (vec_len memory) 0 [] in
-            Makes (makes (vec_len memory) ≡ true) (λ j. ⟦<Journal as Log>⟧.view j ≡ empty) memory result }
+            let allowed = makes (vec_len memory) ≡ true in
+            Makes allowed (λ j. ⟦<Journal as Log>⟧.view j ≡ empty) memory result }
     {
         let slots = slots_in(memory.len());
         let mut packed = PackedMessages::new(memory, JOURNAL_LEAST, 0, slots, 0)?;
@@ -80,7 +81,9 @@ impl Journal {
             (λ j. Opened memory.items used (⟦<Journal as Log>⟧.view j))
             (λ u. (u.given ≡ memory) × Unopened memory.items used u.refusal) }
         ensures back { (s : ℕ) (ms : List (List ℕ)) →
-            Savable s ms → opens (vec_len memory) used ≡ true → take used memory.items ≡ saved s ms →
+            Savable s ms →
+            opens (vec_len memory) used ≡ true →
+            take used memory.items ≡ saved s ms →
             IsOkAnd result (λ j. ⟦<Journal as Log>⟧.view j ≡ journal (vec_len memory) s ms) }
     {
         let len = memory.len();

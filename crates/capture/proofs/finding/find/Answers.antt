@@ -7,7 +7,7 @@ use Rattle.packet.specs.Decoding.{Decoded, decode, packet_length, part, whole}
 use Rattle.packet.specs.Laws.{Front}
 use Rattle.packet.specs.Meanings.{value_of, read_of}
 use Rattle.packet.proofs.Lengths.{length_of_encode, length_fault, length_none, part_short}
-use Rattle.capture.specs.Finding.{Part, PacketAt, Tells}
+use Rattle.capture.specs.Finding.{Part, PacketAt, FindsFirst}
 use Rattle.capture.specs.declared.finding.Found.{Found}
 use Rattle.capture.proofs.finding.find.Goals as goal
 
@@ -35,9 +35,9 @@ returns-in_default c =
     a_part bs (length_none bs (e ∙ ap (λ (o : Option ℕ). Ok o) c.in_default.is))
 
 -- what was read, seen as the answer
-told : (bs : List ℕ) (size : ℕ) (o : Option Packet) (m : Option Found) → packet_length bs ≡ Ok (Some size) → decode bs ≡ Ok (read_of o) → ((v : Value) → ◌≡◌ {A = Result Decoded PacketFault} (Ok (read_of o)) (Ok (whole v)) → Front v bs) → MatchOption o (m ≡ None) (λ p. m ≡ Some (record { packet = p; size = size })) → Tells bs (Ok m)
-told bs size None m l e f h = rw h (a_part bs e)
-told bs size (Some p) m l e f h = rw h (a_packet bs (value_of p) size e (f (value_of p) refl) l)
+shown : (bs : List ℕ) (size : ℕ) (o : Option Packet) (m : Option Found) → packet_length bs ≡ Ok (Some size) → decode bs ≡ Ok (read_of o) → ((v : Value) → ◌≡◌ {A = Result Decoded PacketFault} (Ok (read_of o)) (Ok (whole v)) → Front v bs) → MatchOption o (m ≡ None) (λ p. m ≡ Some (record { packet = p; size = size })) → FindsFirst bs (Ok m)
+shown bs size None m l e f h = rw h (a_part bs e)
+shown bs size (Some p) m l e f h = rw h (a_packet bs (value_of p) size e (f (value_of p) refl) l)
 
 pub returns : goal.returns
 returns c =
@@ -46,4 +46,4 @@ returns c =
     let t = c.in_ok-read.ensures in
     let l = sym (c.in_ok-size.ensures ∙ ap packet_length same) ∙ ap (λ (o : Option ℕ). Ok o) c.in-Some.is in
     let h : MatchOption c.in_ok-read.field-0 (c.map.result ≡ None) (λ p. c.map.result ≡ Some (record { packet = p; size = c.in-Some.size })) = search rules in
-    told bs c.in-Some.size c.in_ok-read.field-0 c.map.result l (sym (t.answer ∙ ap decode same)) (λ v q. subst (λ (x : List ℕ). Front v x) same (t.front v q)) h
+    shown bs c.in-Some.size c.in_ok-read.field-0 c.map.result l (sym (t.answer ∙ ap decode same)) (λ v q. subst (λ (x : List ℕ). Front v x) same (t.front v q)) h

@@ -7,9 +7,9 @@ use Rattle.slot_log.specs.Slotted.{held}
 use Rattle.slot_log.specs.Sounds.{taken_held}
 use Rattle.slot_log.proofs.Slots.left.Goals as goal
 
--- where there is room for the longest message while a place is left, the room refuses none
-roomy : (s room places left n : ℕ) → places ≡ left → n ≤ message_limit → (0 < left → message_limit ≤ room) → verdict s room places 0 n ≡ cond (eqb left 0) (Err LogFull) (cond (eqb s 0) (Err NoSession) (Ok tt))
-roomy s room places left n same short enough = search rules
+-- where there is room for the longest message while a slot is left, the room refuses none
+roomy : (s room slots left n : ℕ) → slots ≡ left → n ≤ message_limit → (0 < left → message_limit ≤ room) → verdict s room slots 0 n ≡ cond (eqb left 0) (Err LogFull) (cond (eqb s 0) (Err NoSession) (Ok tt))
+roomy s room slots left n same short enough = search rules
 
 pub returns : goal.returns
 returns c =
@@ -19,6 +19,6 @@ returns c =
     let front = length-take s.count s.slots.items in
     let all = taken_held some in
     record {
-      places = omega arith;
+      slots = omega arith;
       answer = λ n short. roomy s.session _ _ _ n (omega arith) short (λ h. omega arith);
     }

@@ -1,5 +1,0 @@
-use Rattle.account.proofs.Padding.{judges_fields, fields_are_told_apart}
-use Rattle.account.proofs.laws.fields_are_told_apart.Goals as goal
-
-pub returns : goal.returns
-returns c = record { judged = judges_fields; apart = fields_are_told_apart }
