@@ -1,5 +1,5 @@
 -- The parts of a pair as they are made, one by one, and all of them together.
-use Rattle.std.specs.Prelude.{◌≡◌, ℕ, Bool, true, false, ◌&&◌, List, [], replicate, is_some, is_ok, IsSomeAnd, Err}
+use Rattle.std.specs.Prelude.{◌≡◌, Bool, true, false, ◌&&◌, List, [], replicate, is_some, is_ok, IsSomeAnd, Err}
 use Rattle.account.specs.Table.{joining, joined, index_of}
 use Rattle.lines.specs.declared.any.AnyLine.{AnyLine}
 use Rattle.logs.specs.Kinds.{inside}

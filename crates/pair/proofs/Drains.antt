@@ -1,11 +1,10 @@
 -- How receives, one after the other, come to what an end drains; and what a step of one call tells.
-use Rattle.std.proofs.Common.{◌≡◌, ℕ, ◌+◌, ◌<◌, ◌≤◌, true, false, ◌||◌, List, length, Ok, Err, Option, Result, sym, refl, subst, ap, add_assoc, zero-add, add-zero, arith}
-use Rattle.std.proofs.lemmas.Bool.{or_from, or_parts, lt-ltb, le-ltb, ltb-false}
+use Rattle.std.proofs.Common.{◌≡◌, ℕ, ◌+◌, ◌≤◌, false, ◌||◌, List, length, Ok, Err, Option, Result, sym, refl, subst, add_assoc, zero-add, add-zero, arith}
+use Rattle.std.proofs.lemmas.Bool.{or_from, or_parts, le-ltb, ltb-false}
 use Rattle.wire.specs.declared.faults.Fault.{Fault}
 use Rattle.wire.specs.declared.refusals.Refusal.{Refusal}
 use Rattle.wire.specs.Limits.{packet_limit}
 use Rattle.wire.specs.declared.letters.Letter.{Letter}
-use Rattle.packet.specs.Values.{Value}
 use Rattle.rules.specs.declared.answers.Received.{Received}
 use Rattle.rules.specs.declared.answers.Report.{Report}
 use Rattle.rules.specs.declared.answers.Received.TheVariants.{Nothing, Part, Acted, Message}

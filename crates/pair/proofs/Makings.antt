@@ -1,5 +1,5 @@
 -- What a set-up that is not refused makes.
-use Rattle.std.proofs.Common.{◌≡◌, Bool, true, false, ◌||◌, Ok, Result, sym, ap, ◌∙◌}
+use Rattle.std.proofs.Common.{◌≡◌, true, false, Ok, Result, sym, ap, ◌∙◌}
 use Rattle.std.proofs.lemmas.Bool.{cond-true, cond-false}
 use Rattle.wire.specs.declared.refusals.Refusal.{Refusal}
 use Rattle.account.specs.Fields.{account_of}

@@ -12,7 +12,6 @@ use Rattle.rules.specs.Hub.{listens, hub_sends}
 use Rattle.rules.specs.Seat.{is_apart, seat_sends}
 use Rattle.rules.specs.Calls.{Done, publishes, publish, finish, busy, last_session, roll, tell, say, leave}
 use Rattle.rules.specs.declared.answers.Answer.{Answer}
-use Rattle.rules.specs.declared.answers.Answer.TheVariants as Answer
 use Rattle.rules.specs.Rounds.{Call, Step, did, refusal, HubReceive, SeatReceive, HubSend, SeatSend, lent_short, HubReceives, SeatReceives, hub_deaf, hub_hears_bytes, seat_deaf, seat_hears_bytes, short_buffer, hub_receives, seat_receives, hub_sends_one, seat_sends_one}
 use Rattle.rules.specs.Sides.{hub_side_of, with_hub_side, with_hub_core, seat_side_of, with_seat_side, with_seat_core, on_side}
 use Rattle.rules.proofs.Blind.{along}

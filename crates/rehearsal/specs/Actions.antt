@@ -3,7 +3,6 @@ use Rattle.std.specs.Prelude.{◌≡◌, ℕ, ◌+◌, Some, None, Option, Resul
 use Rattle.wire.specs.declared.refusals.Refusal.{Refusal}
 use Rattle.wire.specs.declared.statuses.Status.{Status}
 use Rattle.rules.specs.declared.answers.Answer.{Answer}
-use Rattle.rules.specs.declared.answers.Answer.TheVariants as Answer
 use Rattle.relay.specs.Calls.{call_of}
 use Rattle.relay.specs.Histories.{Performs}
 use Rattle.relay.specs.Levels.{how_of, BringsLevel}

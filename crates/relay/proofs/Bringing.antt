@@ -1,17 +1,15 @@
 -- What brings a seat level: an accepted connect, and rounds.
-use Rattle.std.proofs.Common.{◌≡◌, ℕ, zero, suc, false, ◌||◌, None, Some, List, [], ◌∷◌, ◌++◌, length, map, Ok, Err, Option, Result, refl, sym, ap, ◌∙◌, subst, append_assoc, append-nil, length-append, add-one}
+use Rattle.std.proofs.Common.{◌≡◌, ℕ, suc, false, ◌||◌, None, List, [], ◌∷◌, ◌++◌, length, map, Ok, Err, refl, sym, ap, ◌∙◌, subst, append_assoc, append-nil, length-append, add-one}
 use Rattle.std.proofs.lemmas.Bool.{or_parts}
 use Rattle.std.proofs.lemmas.List.{map-append}
 use Rattle.wire.specs.declared.refusals.Refusal.{Refusal}
-use Rattle.wire.specs.declared.statuses.Status.{Status}
 use Rattle.rules.specs.declared.phases.How.{How}
 use Rattle.rules.specs.declared.answers.Report.{Report}
 use Rattle.rules.specs.State.{Pair}
 use Rattle.rules.specs.Calls.{done, connect, connected}
 use Rattle.rules.specs.declared.answers.Answer.{Answer}
-use Rattle.rules.specs.declared.answers.Answer.TheVariants as Answer
 use Rattle.rules.specs.Rounds.{Call, Connect, Round, too_short, lent_short, Effect, did, Step, short_buffer, connects, rounds}
-use Rattle.promises.specs.Runs.{World, History, GrantedRounds, no_round, round}
+use Rattle.promises.specs.Runs.{GrantedRounds, no_round, round}
 use Rattle.promises.specs.Promises.{Able, Level, rounds_needed}
 use Rattle.promises.proofs.Made.{catches_up}
 use Rattle.pair.specs.Steps.{Does, GoesRound}

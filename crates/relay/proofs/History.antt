@@ -1,24 +1,19 @@
 -- What happened, and what is promised of it.
-use Rattle.std.proofs.Common.{◌≡◌, ℕ, suc, true, false, map, add-one, append_assoc, append-nil, length-append, List, [], ◌∷◌, ◌++◌, length, Ok, Err, Option, Result, refl, sym, ap, ◌∙◌, subst}
-use Rattle.std.proofs.lemmas.List.{map-append}
-use Rattle.wire.specs.declared.refusals.Refusal.{Refusal}
-use Rattle.packet.specs.Values.{Value}
+use Rattle.std.proofs.Common.{◌≡◌, true, append_assoc, append-nil, List, [], ◌∷◌, ◌++◌, Ok, refl, sym, ap, ◌∙◌, subst}
 use Rattle.rules.specs.State as Line
 use Rattle.message_log.specs.Meaning as Log
 use Rattle.rules.specs.State.{Pair}
 use Rattle.rules.specs.SetUp.{Parts, set_up}
 use Rattle.rules.specs.Calls.{connected}
-use Rattle.rules.specs.declared.answers.Report.{Report}
 use Rattle.rules.specs.declared.answers.Answer.{Answer}
-use Rattle.rules.specs.declared.answers.Answer.TheVariants as Answer
-use Rattle.rules.specs.Rounds.{Call, Connect, Round, Effect, Step, short_buffer, rounds, lent_short}
+use Rattle.rules.specs.Rounds.{Call, Step}
 use Rattle.promises.specs.Book.{Book, opened, noted}
-use Rattle.promises.specs.Runs.{IsPrefix, SetUp, World, Run, begins, goes_on, at_first, stepped, History, GrantedRounds, no_round, round}
+use Rattle.promises.specs.Runs.{IsPrefix, SetUp, World, Run, begins, goes_on, at_first, GrantedRounds}
 use Rattle.promises.specs.Promises.{Holds, Able, Level, rounds_needed}
 use Rattle.promises.proofs.Begun.{set_up_begins}
 use Rattle.promises.proofs.Made.{catches_up}
-use Rattle.relay.specs.Histories.{Leads, LeadsOn, no_call, then, Followed, Keeps, Performs}
-use Rattle.relay.specs.CallHistory.{CallHistory, without_calls, followed_by, book_after, book_of, Happened, PromisesHold, NeverShorter, PerformsAndNotes}
+use Rattle.relay.specs.Histories.{LeadsOn, no_call, then, Keeps, Performs}
+use Rattle.relay.specs.CallHistory.{CallHistory, without_calls, followed_by, book_after, Happened, PromisesHold, NeverShorter, PerformsAndNotes}
 use Rattle.relay.proofs.Keeping.{promised, led_together}
 
 -- what is set up is a pair of which the promises speak

@@ -10,7 +10,6 @@ use Rattle.rules.specs.declared.phases.SeatPhase.{SeatPhase}
 use Rattle.rules.specs.declared.phases.SeatPhase.TheVariants.{Apart, Asking, Live}
 use Rattle.rules.specs.declared.answers.Report.{Report}
 use Rattle.rules.specs.declared.answers.Answer.{Answer}
-use Rattle.rules.specs.declared.answers.Answer.TheVariants as Answer
 use Rattle.rules.specs.State.{SeatEnd, Pair}
 use Rattle.rules.specs.Calls.{connected}
 use Rattle.rules.specs.Rounds.{Call, Connect, Round, lent_short, Step}

@@ -1,7 +1,6 @@
 use Rattle.std.proofs.Common.{◌≡◌, ap, Bool, true, false, is_some, Ok, Err, refl, ◌∙◌, arith}
 use Rattle.wire.specs.declared.refusals.Refusal.{Refusal}
 use Rattle.rules.specs.declared.answers.Answer.{Answer}
-use Rattle.rules.specs.declared.answers.Answer.TheVariants as Answer
 use Rattle.rules.specs.Rounds as R
 use Rattle.rules.specs.State.{Pair}
 use Rattle.rehearsal.specs.Counting.{counted}

@@ -1,4 +1,4 @@
-use Rattle.std.proofs.Common.{◌≡◌, ◌∙◌, refl, sym, subst}
+use Rattle.std.proofs.Common.{◌∙◌, refl, sym}
 use Rattle.rules.proofs.Keeps.{buffers_last}
 use Rattle.pair.proofs.Drains.{still_long}
 use Rattle.relay.proofs.Bringing.{connect_granted, levels}

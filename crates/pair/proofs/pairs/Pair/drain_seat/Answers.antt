@@ -1,5 +1,4 @@
 use Rattle.std.proofs.Common.{sym, arith}
-use Rattle.rules.specs.Laws.{NoShorter}
 use Rattle.rules.specs.Rounds.{SeatReceives}
 use Rattle.rules.proofs.Keeps.{buffers_last}
 use Rattle.rules.proofs.Total.{goes_on_by_taking}

@@ -1,7 +1,7 @@
-use Rattle.std.proofs.Common.{◌≡◌, false, None, sym, ◌∙◌}
+use Rattle.std.proofs.Common.{None, sym, ◌∙◌}
 use Rattle.rules.specs.Rounds.{Round, short_buffer}
 use Rattle.rules.proofs.Keeps.{buffers_last}
-use Rattle.pair.proofs.Drains.{AllLong, long, all_long, longer, round_goes}
+use Rattle.pair.proofs.Drains.{long, all_long, longer, round_goes}
 use Rattle.pair.proofs.pairs.Pair.round.Goals as goal
 
 pub returns-then-is_short : goal.returns-then-is_short
