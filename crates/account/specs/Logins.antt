@@ -39,7 +39,7 @@ speaks rows i asked = bytes_eq (row_at rows i).account.protocol asked.protocol
 abbrev pub asks_for : ℕ → Asked → Bool
 asks_for session asked = asked.session == 0 || (asked.session == session)
 
--- the six checks of a login by the row found, in their order; the hub's log has this session and highest number
+-- the six checks of a login by the row found, in their order; the hub's log has that session and highest number
 abbrev pub checks : List Row → Option ℕ → ℕ → ℕ → Asked → List Check
 checks rows row session highest asked =
     record { passes = bytes_eq asked.version spoken_version; status = WrongVersion }

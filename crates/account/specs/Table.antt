@@ -16,7 +16,7 @@ pub record Table : Type 0 where
 abbrev pub in_use : List Row → ℕ → List Row
 in_use rows count = take count rows
 
--- a user and a computer ID stand in one row at most: of the first so many rows, none matches a later one
+-- no user and computer ID stand in two rows: of the first so many rows, none matches a later one
 abbrev pub Single : List Row → ℕ → Type 0
 Single rows count =
     (i j : ℕ) → (i < j) × (j < count) →

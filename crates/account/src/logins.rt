@@ -16,7 +16,7 @@ pub const SPOKEN_VERSION: [u8; 5] = *b"1.1  ";
 
 impl Accounts {
     // Session and highest number are two answers of a log: a struct of both would be made anew at each call.
-    /// What a login is answered by a hub whose log has this session and highest number: the status of the first
+    /// What a login is answered by a hub whose log has that session and highest number: the status of the first
     /// check that it fails.
     pub fn decide(&self, login: Login<'_>, session: u8, highest: u64) -> Status
         ensures status { result ≡ status_for self.now.rows session highest (asked login.entry) }
@@ -43,7 +43,8 @@ impl Accounts {
 
     // The row of a login, or the status of the first check that it fails.
     fn check(&self, login: Login<'_>, session: u8, highest: u64) -> Result<usize, Status>
-        ensures status { status_of result ≡ status_for self.now.rows session highest (asked login.entry) }
+        ensures status { let asks = asked login.entry in
+            status_of result ≡ status_for self.now.rows session highest asks }
         ensures row { let asks = asked login.entry in
             IfOk result (λ row. found self.now.rows asks.user asks.computer ≡ Some row) }
         ensures refused { IfErr result (λ status. status ≢ Accepted) }

@@ -13,7 +13,7 @@ use wire::Refusal;
 /// How many rows a table has.
 pub const CAPACITY: usize = 8;
 
-/// A table of accounts. A user and a computer ID stand in one row at most, and a row that is not in use is blank.
+/// A table of accounts. No two rows match each other, and a row that is not in use is blank.
 // An array and a count beside it: a table is an array of eight rows, a rule of the project.
 #[derive(Drop)]
 pub struct Accounts {

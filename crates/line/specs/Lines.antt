@@ -35,7 +35,7 @@ cleared v = record v { waiting = []; room = v.full }
 abbrev pub fits : LineView → List ℕ → Bool
 fits v piece = nat_le (length piece) v.room
 
--- A put is granted just when the piece fits the room; a refused one changes nothing.
+-- A put is granted if the piece is no longer than the room, and only then; a refused one changes nothing.
 pub record Put (v : LineView) (piece : List ℕ) (r : Result (Unit {0}) Refusal) (w : LineView) :
     Type 0 where
   pub answer : r ≡ cond (fits v piece) (Ok tt) (Err LineFull)

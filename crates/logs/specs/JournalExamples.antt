@@ -8,7 +8,7 @@ use Rattle.logs.specs.Layout.{journal}
 use Rattle.logs.specs.Opening.{Savable, Broken}
 
 pub data JournalExample : Type 0 where
-  -- the bytes open as this session with these messages
+  -- the bytes open as a log of the session given, with these messages
   opens_as : List ℕ → ℕ → List (List ℕ) → JournalExample
   -- the bytes are broken at this place
   broken_at : List ℕ → ℕ → JournalExample

@@ -23,7 +23,7 @@ pub data Broken (bytes : List ℕ) : ℕ → Type 0 where
       take place bytes ≡ saved s ms → place < length bytes →
       message_of s (drop place bytes) ≡ Err f → Broken bytes place
 
--- the bytes hold records to their end: so many messages under this session, with an index of the first
+-- the bytes hold records to their end: so many messages under the session given, with an index of the first
 pub record Scanned (bytes : List ℕ) (session count : ℕ) (index : List ℕ) : Type 0 where
   pub form : bytes ≡ saved session (parts bytes (walked bytes) gap count)
   pub last : walked bytes count ≡ length bytes

@@ -38,7 +38,7 @@ pub fn read_session(bytes: &[u8]) -> Result<u8, RecordFault>
     }
 }
 
-/// The message whose record stands at the front of these bytes, under this session.
+/// The message whose record stands at the front of these bytes, under the session given.
 pub fn read_message(bytes: &[u8], session: u8) -> Result<&[u8], RecordFault>
     ensures { held result ≡ message_of session bytes.now }
 {

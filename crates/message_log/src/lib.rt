@@ -1,7 +1,7 @@
 //! What a log is: anything that keeps a session and a list of messages.
 //!
-//! A log means a **session** (1 to 255, or 0 for none), a list of **messages**, and three numbers that stay as
-//! they were when it was made: its **size** in bytes, its **overhead** (what each message takes beside its own
+//! A log means a **session** (from 1 to 255; 0 stands for none), its **messages** in order, and three numbers that stay
+//! as they were when it was made: its **size** in bytes, its **overhead** (what each message takes beside its own
 //! bytes) and its **slots** (how many messages it can hold). Its **room** is the size less what the messages
 //! take. Code above this crate is written for any log and rests on that meaning alone.
 //!

@@ -35,7 +35,7 @@ impl<const BASE: usize, const GAP: usize> PackedMessages<BASE, GAP> {
     ghost use Rattle.packed_messages.specs.Packed.{run_of, InRange, judged, fronted_by, restarted, extended};
     ghost use Rattle.packed_messages.specs.Shown.{packed_of};
 
-    /// A run of bytes that is used so far, by so many messages of this session, with so many slots for messages.
+    /// A run of bytes that is used so far, by so many messages of the session given, with so many slots for messages.
     /// Numbers that do not fit each other are refused.
     pub fn new(
         memory: Vec<u8>,

@@ -3,8 +3,8 @@
 #![tactic(auto)]
 
 use rehearsal::{Files, rehearse};
-use std::{env, fs, io};
 use std::io::{BufReader, BufWriter, Write};
+use std::{env, fs, io};
 
 /// The files of a folder.
 #[derive(Clone, Copy)]

@@ -23,7 +23,7 @@ pub record Promised (o : Pair) (w : World) : Type 0 where
   pub history : History Step o w
   -- the seat's log is a prefix of what the book has for the session that it bears
   pub never_wrong : IsPrefix w.pair.held.messages (w.book.lists w.pair.held.session)
-  -- it has all that it held at any earlier point, if it bore this session there
+  -- it has all that it held at any earlier point, if it bore the same session there
   pub never_shorter : (v : World) → History Step o v → Run Step v w → w.pair.held.session ≡ v.pair.held.session → IsPrefix v.pair.held.messages w.pair.held.messages
   -- a seat that reports itself in step holds all that the note has
   pub in_step_is_true : w.pair.seat.in_step ≡ true → Holds w.note w.pair.held

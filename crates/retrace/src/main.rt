@@ -3,9 +3,9 @@
 #![tactic(auto)]
 
 use rehearsal::{NoFiles, Retraced, retrace};
-use std::{env, fs, io};
 use std::io::{BufReader, BufWriter, Write};
 use std::process::ExitCode;
+use std::{env, fs, io};
 
 // What became of a trace, in a line.
 fn show_retraced<W: Write>(out: &mut W, path: &str, retraced: Retraced) -> io::Result<()> {

@@ -108,7 +108,7 @@ fn keep<G: Log>(message: &[u8], log: &mut G) -> Result<(), LogFault>
     log.append(message).map_err(|_| LogFault::Full)
 }
 
-// Whether an accepted response may bear this session: the one asked for, and any but 0 where 0 was asked for.
+// Whether an accepted response may bear the session given: the one asked for, and any but 0 where 0 was asked for.
 fn is_suited(asked: u8, session: u8) -> bool
     ensures { result ≡ suits asked session }
 {
