@@ -4,7 +4,7 @@ use Rattle.packet.specs.Values.{Value}
 use Rattle.rules.specs.State.{Pair}
 use Rattle.rules.specs.declared.answers.Answer.{Answer}
 use Rattle.rules.specs.Rounds.{Call, Effect, Step}
-use Rattle.promises.specs.Runs.{IsPrefix, World, stepped, Run, History}
+use Rattle.promises.specs.Runs.{IsPrefix, World, lent, stepped, Run, History}
 use Rattle.promises.specs.Promises.{Holds}
 
 -- by the rules just these calls, with these answers, lead from one pair to another
@@ -35,9 +35,9 @@ pub record Followed (o : Pair) (v : World) (made : List (Call × Answer)) (t : P
   pub led : LeadsOn v made now
   pub promised : Promised o now
 
--- so it is whatever history led to the first pair
+-- so it is whatever history led to the first pair, with these buffers or with others
 abbrev pub Keeps : Pair → List (Call × Answer) → Pair → Type 0
-Keeps s made t = (o : Pair) (v : World) → History Step o v → v.pair ≡ s → Followed o v made t
+Keeps s made t = (o : Pair) (v : World) → History Step o v → (lent v s.buffers).pair ≡ s → Followed o (lent v s.buffers) made t
 
 -- A call was performed: by a step of the rules, and with the promises kept.
 pub record Performs (s : Pair) (call : Call) (answer : Answer) (t : Pair) : Type 0 where
