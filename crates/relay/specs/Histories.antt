@@ -10,7 +10,8 @@ use Rattle.promises.specs.Promises.{Holds}
 -- by the rules just these calls, with these answers, lead from one pair to another
 pub data Leads (s : Pair) : List (Call × Answer) → Pair → Type 0 where
   none : Leads s [] s
-  one_more : {made : List (Call × Answer)} {t : Pair} → Leads s made t → (call : Call) (d : Effect) → Step t call d → Leads s (made ++ (call, d.answer) ∷ []) d.after
+  one_more : {made : List (Call × Answer)} {t : Pair} → Leads s made t → (call : Call) (d : Effect) → Step t call d →
+      Leads s (made ++ (call, d.answer) ∷ []) d.after
 
 -- the same from one point of a run to a later one
 pub data LeadsOn (v : World) : List (Call × Answer) → World → Type 0 where
@@ -24,7 +25,8 @@ pub record Promised (o : Pair) (w : World) : Type 0 where
   -- the seat's log is a prefix of what the book has for the session that it bears
   pub never_wrong : IsPrefix w.pair.held.messages (w.book.lists w.pair.held.session)
   -- it has all that it held at any earlier point, if it bore this session there
-  pub never_shorter : (v : World) → History Step o v → Run Step v w → w.pair.held.session ≡ v.pair.held.session → IsPrefix v.pair.held.messages w.pair.held.messages
+  pub never_shorter : (v : World) → History Step o v → Run Step v w → w.pair.held.session ≡ v.pair.held.session →
+      IsPrefix v.pair.held.messages w.pair.held.messages
   -- a seat that reports itself in step holds all that the note has
   pub in_step_is_true : w.pair.seat.in_step ≡ true → Holds w.note w.pair.held
 
@@ -37,7 +39,8 @@ pub record Followed (o : Pair) (v : World) (made : List (Call × Answer)) (t : P
 
 -- so it is whatever history led to the first pair, with these buffers or with others
 abbrev pub Keeps : Pair → List (Call × Answer) → Pair → Type 0
-Keeps s made t = (o : Pair) (v : World) → History Step o v → (lent v s.buffers).pair ≡ s → Followed o (lent v s.buffers) made t
+Keeps s made t =
+    (o : Pair) (v : World) → History Step o v → (lent v s.buffers).pair ≡ s → Followed o (lent v s.buffers) made t
 
 -- A call was performed: by a step of the rules, and with the promises kept.
 pub record Performs (s : Pair) (call : Call) (answer : Answer) (t : Pair) : Type 0 where

@@ -24,8 +24,8 @@ abbrev pub how_of : Way → How
 how_of Join = H.Join
 how_of Anew = H.Anew
 
--- what the hub answered a login, of a seat in this phase that was rejected by this status: a seat that still asks has
--- no answer
+-- what the hub answered a login, of a seat in this phase that was rejected by this status: a seat that was not, and no
+-- longer asks, was accepted
 abbrev pub answered_by : SeatPhase → Option Status → Option Status
 answered_by phase (Some status) = Some status
 answered_by Apart None = Some Accepted
