@@ -49,12 +49,22 @@ Left p q = (q.accounts.rows ≡ p.accounts.rows) × (q ≡ record p { accounts =
 
 -- no part is made but the table, which has no row
 abbrev pub Bare : Builder → Type 0
-Bare p = (is_some p.hub_log ≡ false) × ((is_some p.seat_log ≡ false) × ((is_some p.up ≡ false) × ((is_some p.down ≡ false) × ((is_some p.seat ≡ false) × (p.accounts.rows ≡ [])))))
+Bare p =
+    (is_some p.hub_log ≡ false)
+    × ((is_some p.seat_log ≡ false)
+    × ((is_some p.up ≡ false)
+    × ((is_some p.down ≡ false)
+    × ((is_some p.seat ≡ false) × (p.accounts.rows ≡ [])))))
 
 -- all parts are made, and mean this
 abbrev pub Joined : (AnyLine → LineView) → Builder → Given.Parts → Type 0
 Joined means p g =
-    IsSomeAnd p.hub_log (λ l. g.hub_log ≡ inside l) × (IsSomeAnd p.seat_log (λ l. g.seat_log ≡ inside l) × (IsSomeAnd p.up (λ t. g.up ≡ means t.line) × (IsSomeAnd p.down (λ t. g.down ≡ means t.line) × (IsSomeAnd p.seat (λ c. (g.user ≡ c.user.items) × ((g.computer ≡ c.computer.items) × (g.protocol ≡ c.protocol.items))) × ((g.rows ≡ p.accounts.rows) × (g.buffers ≡ p.buffers))))))
+    IsSomeAnd p.hub_log (λ l. g.hub_log ≡ inside l)
+    × (IsSomeAnd p.seat_log (λ l. g.seat_log ≡ inside l)
+    × (IsSomeAnd p.up (λ t. g.up ≡ means t.line)
+    × (IsSomeAnd p.down (λ t. g.down ≡ means t.line)
+    × (IsSomeAnd p.seat (λ c. (g.user ≡ c.user.items) × ((g.computer ≡ c.computer.items) × (g.protocol ≡ c.protocol.items)))
+    × ((g.rows ≡ p.accounts.rows) × (g.buffers ≡ p.buffers))))))
 
 -- whether all parts are made
 abbrev pub is_complete : Builder → Bool

@@ -33,7 +33,7 @@ use Rattle.rules.specs.Calls.{Done, counted, hub_timed, tick, is_serving}
 use Rattle.rules.specs.declared.answers.Answer.{Answer}
 use Rattle.rules.specs.Rounds.{HubReceives, SeatReceives, Drains, ends, more, Rounds, Call, Connect, Cut, Publish, Finish, Roll, Tell, Say, Leave, HubReceive, SeatReceive, HubSend, SeatSend, Tick, Round, Effect, Step, short_buffer, connects, cuts, publishes, finishes, rolls, tells, says, leaves, hub_receives, seat_receives, hub_sends_one, seat_sends_one, ticks, rounds, refusal}
 use Rattle.promises.specs.Book.{Message, Book, opened, added, turned, noted}
-use Rattle.promises.specs.Runs.{IsPrefix, World, Run, begins, goes_on, SetUp, History}
+use Rattle.promises.specs.Runs.{IsPrefix, World, Run, begins, goes_on, lends_others, SetUp, History}
 use Rattle.promises.specs.Promises.{NeverWrong, NeverShorter}
 use Rattle.promises.proofs.Fronts.{IsPrefix-push, IsPrefix-next}
 use Rattle.promises.proofs.Frames.{short_nil}
@@ -326,6 +326,7 @@ run_keeps {v} (goes_on {w = m} r c d h) i =
     let e = run_keeps r i in
     let k = step_keeps m.book m.pair c d h e.0 in
     (k.sound, grows_trans v.pair.held m.pair.held d.after.held e.1 k.grows)
+run_keeps (lends_others r buffers) i = run_keeps r i
 
 -- a pair that was set up
 opened_none : (k : Meaning) (x : ℕ) → (x ≡ k.session → ⊥) → (opened k).lists x ≡ []

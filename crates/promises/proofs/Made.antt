@@ -10,7 +10,7 @@ use Rattle.rules.specs.Rounds.{Connect, Round, too_short, lent_short, did, Step,
 use Rattle.rules.specs.Laws.{Lined, NoShorter}
 use Rattle.rules.proofs.Keeps.{lines_stay_sound, buffers_last}
 use Rattle.rules.proofs.Total.{rounds_granted}
-use Rattle.promises.specs.Runs.{World, Run, begins, goes_on, GrantedRounds, no_round, round, History}
+use Rattle.promises.specs.Runs.{World, Run, begins, goes_on, lends_others, GrantedRounds, no_round, round, History}
 use Rattle.promises.specs.Promises.{CatchesUp, CanCatchUp}
 use Rattle.promises.proofs.Keeps.{history_sound}
 use Rattle.promises.proofs.Tells.{history_tru}
@@ -20,6 +20,7 @@ use Rattle.promises.proofs.Catch as catch
 run_lined : {v w : World} → Run Step v w → Lined v.pair → Lined w.pair
 run_lined begins i = i
 run_lined (goes_on {w = m} r c d h) i = lines_stay_sound m.pair c d h (run_lined r i)
+run_lined (lends_others r buffers) i = record { up = (run_lined r i).up; down = (run_lined r i).down }
 
 history_lined : (o : Pair) (w : World) → History Step o w → Lined w.pair
 history_lined o w (u, r) = run_lined r (record { up = u.up_line; down = u.down_line })

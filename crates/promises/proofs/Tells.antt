@@ -37,7 +37,7 @@ use Rattle.rules.specs.Calls.{Done, cut, counted, hub_timed, tick, busy, is_serv
 use Rattle.rules.specs.declared.answers.Answer.{Answer}
 use Rattle.rules.specs.Rounds.{HubReceives, SeatReceives, Drains, ends, more, Rounds, Call, Connect, Cut, Publish, Finish, Roll, Tell, Say, Leave, HubReceive, SeatReceive, HubSend, SeatSend, Tick, Round, Effect, Step, short_buffer, connects, cuts, publishes, finishes, rolls, tells, says, leaves, hub_receives, seat_receives, hub_sends_one, seat_sends_one, ticks, rounds, refusal}
 use Rattle.promises.specs.Book.{Message, Book, opened, added, turned, noted}
-use Rattle.promises.specs.Runs.{IsPrefix, Note, accepts, written, renoted, World, Run, begins, goes_on, SetUp, History}
+use Rattle.promises.specs.Runs.{IsPrefix, Note, accepts, written, renoted, World, Run, begins, goes_on, lends_others, SetUp, History}
 use Rattle.promises.specs.Promises.{Holds, InStepIsTrue}
 use Rattle.promises.proofs.Fronts.{IsPrefix-push, IsPrefix-trans, IsPrefix-length, IsPrefix-shorter}
 use Rattle.promises.proofs.Frames.{Short, short_nil}
@@ -558,6 +558,7 @@ step_tru o b s _ _ (rounds p w t e r) i tr = rounds_tru o b s p w t r i tr
 pub run_tru : {v w : World} → Run Step v w → Sound v.book v.pair → Truth v.note v.book v.pair → Truth w.note w.book w.pair
 run_tru begins i tr = tr
 run_tru (goes_on {w = m} r c d h) i tr = step_tru m.note m.book m.pair c d h (run_keeps r i).0 (run_tru r i tr)
+run_tru (lends_others r buffers) i tr = run_tru r i tr
 
 pub set_up_tru : (s : Pair) → SetUp s → Truth None (opened s.running.log) s
 set_up_tru s u = record { notes = λ k e. (cc); truth = λ e. (cc (e, u.unreported)); user = u.user; computer = u.computer; protocol = u.protocol; few = u.seat_log_sound.placed; places = u.seat_log_sound.places_within; way = gone u.apart }

@@ -1,5 +1,5 @@
--- Runs: lists of calls, granted or refused, with the book and the note that go along with them. They are stated
--- for any rules, so that wrong ones can be tried too.
+-- Runs: lists of calls, granted or refused, with the book and the note that go along with them. Between two calls the
+-- lent buffers may change. Runs are stated for any rules, so that wrong ones can be tried too.
 use Rattle.std.specs.Prelude.{◌≡◌, ℕ, suc, ◌+◌, ◌<◌, Bool, true, false, cond, ◌&&◌, ◌⊎◌, List, [], ◌++◌, length, Some, None, Ok, Option, ◌==◌}
 use Rattle.wire.specs.declared.statuses.Status.{Status}
 use Rattle.wire.specs.declared.statuses.Status.TheVariants.{Accepted}
@@ -10,7 +10,7 @@ use Rattle.message_log.specs.Meaning.{Meaning}
 use Rattle.rules.specs.declared.phases.HubPhase.TheVariants.{Shut}
 use Rattle.rules.specs.declared.phases.SeatPhase.TheVariants.{Apart}
 use Rattle.rules.specs.declared.answers.Report.{Report}
-use Rattle.rules.specs.State.{Pair}
+use Rattle.rules.specs.State.{Buffers, Pair}
 use Rattle.rules.specs.declared.answers.Answer.{Answer}
 use Rattle.rules.specs.Rounds.{Call, Connect, HubSend, Round, Effect}
 use Rattle.promises.specs.Book.{Message, Book, opened, is_granted, noted}
@@ -69,10 +69,17 @@ stepped w call d =
       note = renoted call d.answer d.wrote w.pair.seat.number w.book w.note;
     }
 
+-- the same with these buffers
+abbrev pub lent : World → Buffers → World
+lent w buffers = record w { pair = record w.pair { buffers = buffers } }
+
 pub data Run (Rules : Pair → Call → Effect → Type 0) (start : World) : World → Type 0 where
   begins : Run Rules start start
   goes_on : {w : World} → Run Rules start w → (call : Call) (d : Effect) → Rules w.pair call d →
       Run Rules start (stepped w call d)
+  -- between two calls the buffers may be put to any other use, or be others: the bytes of a packet that is not whole
+  -- yet are those of the ends' frames
+  lends_others : {w : World} → Run Rules start w → (buffers : Buffers) → Run Rules start (lent w buffers)
 
 -- so many granted rounds, one after the other
 pub data GrantedRounds (Rules : Pair → Call → Effect → Type 0) : ℕ → Pair → Pair → Type 0 where

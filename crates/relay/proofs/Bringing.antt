@@ -9,7 +9,7 @@ use Rattle.rules.specs.State.{Pair}
 use Rattle.rules.specs.Calls.{done, connect, connected}
 use Rattle.rules.specs.declared.answers.Answer.{Answer}
 use Rattle.rules.specs.Rounds.{Call, Connect, Round, too_short, lent_short, Effect, did, Step, short_buffer, connects, rounds}
-use Rattle.promises.specs.Runs.{GrantedRounds, no_round, round}
+use Rattle.promises.specs.Runs.{lent, lends_others, GrantedRounds, no_round, round}
 use Rattle.promises.specs.Promises.{Able, Level, rounds_needed}
 use Rattle.promises.proofs.Made.{catches_up}
 use Rattle.pair.specs.Steps.{Does, GoesRound}
@@ -18,7 +18,7 @@ use Rattle.relay.specs.CallHistory.{CallHistory, followed_by, Happened, Performs
 use Rattle.relay.specs.Levels.{how_of, round_with, connect_and_rounds, Levels}
 use Rattle.relay.specs.declared.leveling.Way.{Way}
 use Rattle.relay.specs.declared.leveling.Way.TheVariants.{Join, Anew}
-use Rattle.relay.proofs.Keeping.{keeps_none, keeps_one, keeps_together, leads_keep}
+use Rattle.relay.proofs.Keeping.{keeps_none, keeps_one, keeps_together, leads_keep, same_pair}
 use Rattle.relay.proofs.History.{noted_nothing, noted_together, never_shorter}
 
 -- a round that is granted, and one more after others
@@ -78,7 +78,7 @@ levels_by way how s t d n reports i l h j r k m =
         keeps = keeps_together (keeps_one None (keeps_none s) step) (leads_keep more);
         level = λ o v a e able.
             subst (λ x. Able is x → GrantedRounds Step (rounds_needed is x) (connected is x) t → Level x.running.log t) e
-            (λ b q. catches_up o t v is a b q) able rs;
+            (λ b q. catches_up o t (lent v s.buffers) is (a.0, lends_others a.1 s.buffers) b q) able rs;
       },
       refl,
     )
@@ -122,6 +122,6 @@ levels_and_notes way how h t u answer n a l i j p r =
     record {
       levels = k.0;
       noted = noted_together h ((Connect how, answer) ∷ []) (map round_with r.reports) p.noted r.noted ∙ ap (λ x. followed_by h x u.pair) same;
-      level = k.0.level h.first a.now a.promised.history a.stands;
+      level = k.0.level h.first a.now a.promised.history (same_pair a.now a.stands);
       never_shorter = never_shorter h a k.0.keeps;
     }

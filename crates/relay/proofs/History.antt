@@ -14,7 +14,7 @@ use Rattle.promises.proofs.Begun.{set_up_begins}
 use Rattle.promises.proofs.Made.{catches_up}
 use Rattle.relay.specs.Histories.{LeadsOn, no_call, then, Keeps, Performs}
 use Rattle.relay.specs.CallHistory.{CallHistory, without_calls, followed_by, book_after, Happened, PromisesHold, NeverShorter, PerformsAndNotes}
-use Rattle.relay.proofs.Keeping.{promised, led_together}
+use Rattle.relay.proofs.Keeping.{promised, led_together, keeps_on}
 
 -- what is set up is a pair of which the promises speak
 pub set_up_of : (p q : Parts) {s : Pair} → p ≡ q → Log.Sound p.hub_log → Log.Sound p.seat_log → Line.Steady p.up → Line.Steady p.down → Ok s ≡ set_up p → (set_up q ≡ Ok s) × SetUp s
@@ -31,12 +31,12 @@ run_of (then l call d s) = goes_on (run_of l) call d s
 -- what keeps the promises goes on with what happened
 pub happens : (h : CallHistory) {made : List (Call × Answer)} {t : Pair} → Happened h → Keeps h.pair made t → Happened (followed_by h made t)
 happens h a k =
-    let f = k h.first a.now a.promised.history a.stands in
+    let f = keeps_on k a.promised.history a.stands in
     record { now = f.now; stands = f.stands; led = led_together a.led f.led; promised = f.promised }
 
 pub never_shorter : (h : CallHistory) {made : List (Call × Answer)} {t : Pair} → Happened h → Keeps h.pair made t → NeverShorter h (followed_by h made t)
 never_shorter h {made} {t} a k =
-    let f = k h.first a.now a.promised.history a.stands in
+    let f = keeps_on k a.promised.history a.stands in
     subst (λ x. x.held.session ≡ h.pair.held.session → IsPrefix h.pair.held.messages x.held.messages) f.stands
     (subst (λ y. f.now.pair.held.session ≡ y.held.session → IsPrefix y.held.messages f.now.pair.held.messages) a.stands (f.promised.never_shorter a.now a.promised.history (run_of f.led)))
 

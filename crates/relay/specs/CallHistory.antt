@@ -53,11 +53,13 @@ pub record PromisesHold (h : CallHistory) : Type 0 where
   -- a seat that reports itself in step holds all that the note has
   pub in_step_is_true : h.pair.seat.in_step ≡ true → Holds happened.now.note h.pair.held
   -- a connect by join or anew whose login is accepted, and h − q + 2 granted rounds, make the seat's log the hub's
-  pub catches_up : (how : How) (t : Pair) → Able how h.pair → GrantedRounds Step (rounds_needed how h.pair) (connected how h.pair) t → Level h.pair.running.log t
+  pub catches_up : (how : How) (t : Pair) → Able how h.pair →
+      GrantedRounds Step (rounds_needed how h.pair) (connected how h.pair) t → Level h.pair.running.log t
 
 -- what the seat held is kept, as long as its log bears its session
 abbrev pub NeverShorter : CallHistory → CallHistory → Type 0
-NeverShorter h after = after.pair.held.session ≡ h.pair.held.session → IsPrefix h.pair.held.messages after.pair.held.messages
+NeverShorter h after =
+    after.pair.held.session ≡ h.pair.held.session → IsPrefix h.pair.held.messages after.pair.held.messages
 
 -- a set-up begins a history without calls, or hands the parts back
 abbrev pub BeginsHistory : Parts → Result CallHistory (Unmade Parts) → Type 0

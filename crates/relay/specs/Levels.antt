@@ -13,7 +13,7 @@ use Rattle.rules.specs.declared.answers.Answer.{Answer}
 use Rattle.rules.specs.State.{SeatEnd, Pair}
 use Rattle.rules.specs.Calls.{connected}
 use Rattle.rules.specs.Rounds.{Call, Connect, Round, lent_short, Step}
-use Rattle.promises.specs.Runs.{World, History, GrantedRounds}
+use Rattle.promises.specs.Runs.{World, lent, History, GrantedRounds}
 use Rattle.promises.specs.Promises.{Able, Level, rounds_needed}
 use Rattle.pair.specs.Steps.{Does}
 use Rattle.relay.specs.Histories.{Keeps}
@@ -24,8 +24,8 @@ abbrev pub how_of : Way → How
 how_of Join = H.Join
 how_of Anew = H.Anew
 
--- what the hub answered a login, of a seat in this phase that was rejected by this status: a seat that still asks has
--- no answer
+-- what the hub answered a login, of a seat in this phase that was rejected by this status: a seat that was not, and no
+-- longer asks, was accepted
 abbrev pub answered_by : SeatPhase → Option Status → Option Status
 answered_by phase (Some status) = Some status
 answered_by Apart None = Some Accepted
@@ -54,7 +54,7 @@ pub record Levels (how : How) (s t : Pair) : Type 0 where
   pub one_each : length reports ≡ rounds_needed how s
   pub keeps : Keeps s (connect_and_rounds how reports) t
   -- after every history: if the login is accepted and the seat's log has room and places, it is the hub's
-  pub level : (o : Pair) (v : World) → History Step o v → v.pair ≡ s → Able how s → Level s.running.log t
+  pub level : (o : Pair) (v : World) → History Step o v → (lent v s.buffers).pair ≡ s → Able how s → Level s.running.log t
 
 -- granted, with what became of the login, or refused for a short buffer with nothing changed
 abbrev pub BringsLevel : How → Pair → Result (Option Status) Refusal → Pair → Type 0

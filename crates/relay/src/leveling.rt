@@ -49,8 +49,8 @@ impl Way {
 
 /// Brings a seat level with the hub: connects by join or anew, and goes as many rounds as that takes. If the login is
 /// accepted and the seat's log has room and places for what it lacks, it is the hub's then. It answers what the hub
-/// answered the login, or `None` if the lines had no room for the login or its answer. Refuses by `ShortBuffer`, with
-/// nothing changed.
+/// answered the login, or `None` if the hub has not: the lines had no room for the login or its answer, or the seat's
+/// log holds so many messages that no round was made. Refuses by `ShortBuffer`, with nothing changed.
 pub fn bring_level<G: Log, S: Log, U: Line, D: Line>(
     pair: &mut Pair,
     way: Way,
@@ -76,7 +76,8 @@ pub fn bring_level<G: Log, S: Log, U: Line, D: Line>(
     Ok(login_answer(pair.seat_phase(), pair.status()))
 }
 
-// What the hub answered a login, of a seat in this phase that was rejected by this status.
+// What the hub answered a login, of a seat in this phase that was rejected by this status. A seat that was not, and no
+// longer asks, was accepted.
 pub(crate) fn login_answer(phase: SeatPhase, rejected: Option<Status>) -> Option<Status>
     ensures { result ≡ answered_by phase rejected }
 {

@@ -1,11 +1,14 @@
 //! The relay: calls on a pair as a program makes them, and the promises, on the calls themselves.
 //!
-//! A program performs calls one at a time (`perform`) or a list of them (`run`), and brings a seat level
-//! (`bring_level`). Each says that the pair follows the rules, and that the promises hold of it then, for every history
-//! that led to the pair which was lent.
+//! A `Relay` is set up of its `Parts`, and owns them: the pair, its logs, lines and buffers. A program performs calls on
+//! it, one at a time (`perform`) or a list of them (`run`), and brings its seat level (`bring_level`). Its type knows
+//! which calls were made, so the promises hold of it at all times, with no hypothesis (`promises`).
 //!
-//! Left out: the rules, and why they keep the promises. In the order a reader meets them: `Call`, `Answer`, `perform`,
-//! `Slot`, `run`, `Way`, `bring_level`.
+//! The functions `perform`, `run` and `bring_level` do the same with a pair that is lent, and with parts that are lent.
+//! Each says that the pair follows the rules, and that the promises hold of it then, for every history that led to it.
+//!
+//! Left out: the rules, and why they keep the promises. In the order a reader meets them: `Call`, `Answer`, `Slot`,
+//! `Way`, `Parts`, `Relay`, `OwnedPair`; `perform`, `run`, `bring_level`.
 #![tactic(auto)]
 
 mod calls_made;

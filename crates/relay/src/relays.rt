@@ -77,6 +77,7 @@ impl<G: Log, S: Log, U: Line, D: Line> Relay<G, S, U, D> {
     pub fn run(&mut self, slots: &mut [Slot<'_>])
         ensures { RunsAndNotes self.old slots.old slots.new self.new }
     {
+        // The proof reads the promises here; the call does nothing.
         self.promises();
         for slot in slots.iter_mut() {
             let answer = self.perform(slot.call);
@@ -85,11 +86,12 @@ impl<G: Log, S: Log, U: Line, D: Line> Relay<G, S, U, D> {
     }
 
     /// Brings the seat level with the hub: connects by join or anew, and goes as many rounds as that takes. It answers
-    /// what the hub answered the login, or `None` if the lines had no room for the login or its answer. Refuses by
+    /// what the hub answered the login, or `None` if the hub has not, as the function `bring_level` does. Refuses by
     /// `ShortBuffer`, with nothing changed.
     pub fn bring_level(&mut self, way: Way) -> Result<Option<Status>, Refusal>
         ensures { BringsLevelAndNotes (how_of way) self.old result self.new }
     {
+        // The proof reads the promises here; the call does nothing.
         self.promises();
         if self.owned.buffers.is_short() {
             return Err(Refusal::ShortBuffer);
