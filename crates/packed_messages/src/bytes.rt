@@ -1,6 +1,7 @@
 //! Moves of whole slices.
 ghost use Rattle.std.specs.Prelude.{◌≡◌, length};
 ghost use Rattle.message_log.specs.Calls.{placed_in, settled, fronted};
+ghost use Rattle.packed_messages.specs.Bytes.{Bytes};
 ghost use Rattle.packed_messages.specs.Packed.{edge};
 
 use wire::Refusal;
@@ -17,6 +18,12 @@ pub fn copy_out(message: &[u8], buffer: &mut [u8]) -> Result<usize, Refusal>
     buffer[..len].copy_from_slice(message);
     Ok(len)
 }
+
+// It states what every proof knows of such a slice by its type, so nothing calls it.
+/// Says that a slice of bytes holds bytes.
+pub fn are_bytes(bytes: &[u8])
+    ensures { Bytes bytes.now }
+{}
 
 /// Where message k, from 0, begins with its gap: at the base, or where the message before it ends.
 pub fn edge_at(base: usize, ends: &[u32], k: usize) -> usize

@@ -77,8 +77,8 @@ pub data Run (Rules : Pair → Call → Effect → Type 0) (start : World) : Wor
   begins : Run Rules start start
   goes_on : {w : World} → Run Rules start w → (call : Call) (d : Effect) → Rules w.pair call d →
       Run Rules start (stepped w call d)
-  -- between two calls the buffers may hold anything else, or be others. The bytes of a packet that is not whole yet
-  -- are in the ends' frames, and stay
+  -- between two calls the buffers may be put to any other use, or be others: the bytes of a packet that is not whole
+  -- yet are those of the ends' frames
   lends_others : {w : World} → Run Rules start w → (buffers : Buffers) → Run Rules start (lent w buffers)
 
 -- so many granted rounds, one after the other

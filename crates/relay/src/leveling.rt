@@ -48,7 +48,7 @@ impl Way {
 }
 
 /// Brings a seat level with the hub: connects by join or anew, and goes as many rounds as that takes. If the login is
-/// accepted and the seat's log has room and slots for what it lacks, it is the hub's then. It answers what the hub
+/// accepted and the seat's log has room and places for what it lacks, it is the hub's then. It answers what the hub
 /// answered the login, or `None` if the hub has not: the lines had no room for the login or its answer, or the seat's
 /// log holds so many messages that no round was made. Refuses by `ShortBuffer`, with nothing changed.
 pub fn bring_level<G: Log, S: Log, U: Line, D: Line>(

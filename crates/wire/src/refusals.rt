@@ -7,7 +7,8 @@ use crate::faults::{Fault, LogFault, PacketFault};
 use std::alloc::AllocError;
 use thiserror::Error;
 
-/// Why a call was refused. First what is said of what the call was given, then what is said of the state that it met.
+/// Why a call was refused. First what the call was given, then what it met, each in the order in which a
+/// call reports them.
 #[derive(Clone, Copy, PartialEq, Eq, Debug, Error)]
 pub enum Refusal {
     /// A message is longer than the longest one.
