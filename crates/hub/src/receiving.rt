@@ -24,6 +24,7 @@ impl Hub {
     /// Takes once from the up line, and acts on the packet if that makes one whole. Refuses by `ShortBuffer` and,
     /// where it does not listen, by `WrongPhase`, with nothing changed. A bad packet ends the connection: the seat is
     /// told so if the down line has the room.
+    #[inline(always)]
     pub fn receive<G: Log, U: Line, D: Line>(
         &mut self,
         log: &G,
@@ -61,6 +62,7 @@ impl Hub {
 
     // Takes once, and acts on a packet that is whole. After a fault the frame is empty.
     #[tactic(auto, using(framing::proofs::Fills::fill_free, framing::proofs::Fills::fewer_after, crate::proofs::Frames::hears_none))]
+    #[inline(always)]
     fn hear<G: Log, U: Line>(
         &mut self,
         log: &G,

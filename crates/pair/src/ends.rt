@@ -15,6 +15,7 @@ use wire::{Letter, Refusal};
 impl Pair {
     /// The hub takes once from the up line, and acts on a packet that is whole then. Refuses by `ShortBuffer`,
     /// `WrongPhase` and `BadPacket`, in this order; the last ends the connection.
+    #[inline(always)]
     pub fn hub_receive<G: Log, U: Line, D: Line>(
         &mut self,
         hub_log: &G,
@@ -42,6 +43,7 @@ impl Pair {
 
     /// The seat takes once from the down line, and acts on a packet that is whole then. Refuses by `ShortBuffer`,
     /// `WrongPhase`, and by `BadPacket` or `LogFull`, which end the connection.
+    #[inline(always)]
     pub fn seat_receive<S: Log, U: Line, D: Line>(
         &mut self,
         seat_log: &mut S,

@@ -24,6 +24,7 @@ impl Seat {
     /// Takes once from the down line, and acts on the packet if that makes one whole. Refuses by `ShortBuffer` and,
     /// where there is no connection, by `WrongPhase`, with nothing changed. A bad packet, and a log that refuses the
     /// next message, end the connection: the hub is told so if the up line has the room.
+    #[inline(always)]
     pub fn receive<G: Log, U: Line, D: Line>(
         &mut self,
         log: &mut G,
@@ -62,6 +63,7 @@ impl Seat {
 
     // Takes once, and acts on a packet that is whole. After a fault the frame is empty.
     #[tactic(auto, using(framing::proofs::Fills::fill_free, framing::proofs::Fills::fewer_after, crate::proofs::Frames::hears_none))]
+    #[inline(always)]
     fn hear<G: Log, D: Line>(
         &mut self,
         log: &mut G,
