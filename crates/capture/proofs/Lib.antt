@@ -1,3 +1,4 @@
 pub mod Windows
 pub mod Runs
 pub mod Turns
+pub mod Flat

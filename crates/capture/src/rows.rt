@@ -1,7 +1,7 @@
 //! Bytes as people read them: in hex, with the readable ones beside.
 //!
 //! Left out: where they are printed.
-ghost use Rattle.std.specs.Prelude.{◌≡◌, ◌%◌, IfOk};
+ghost use Rattle.std.specs.Prelude.{◌≡◌, ◌%◌, map, IfOk};
 ghost use Rattle.std.specs.List.{flat_map};
 ghost use Rattle.capture.specs.Rows.{digit_of, hex_of, readable_of, row_of};
 
@@ -41,11 +41,21 @@ pub fn readable(byte: u8) -> u8
     }
 }
 
+/// Each byte in hex.
+fn triples(heap: Global, bytes: &[u8]) -> Result<Vec<[u8; 3]>, AllocError>
+    ensures { IfOk result (λ v. v.items ≡ map hex_of bytes.now) }
+{
+    bytes.iter().copied().map(hex).collect(heap)
+}
+
 /// The bytes in hex, one after the other.
+// The three characters of each byte laid flat: a `flat_map` over them takes nearly twice the time.
 fn hexed(heap: Global, bytes: &[u8]) -> Result<Vec<u8>, AllocError>
     ensures { IfOk result (λ v. v.items ≡ flat_map hex_of bytes.now) }
 {
-    bytes.iter().copied().flat_map(hex).collect(heap)
+    let mut line = Vec::new(heap);
+    line.extend_from_slice(triples(heap, bytes)?.as_flattened())?;
+    Ok(line)
 }
 
 /// A row of bytes: in hex, filled up to the width of a full row, and readable between two bars.
