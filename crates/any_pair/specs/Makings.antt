@@ -29,8 +29,8 @@ Joins texts rows after =
 abbrev pub Makes : (AnyLine → LineView) → Part → Builder → Builder → Type 0
 Makes means (P.Log E.Hub form) p q = (q ≡ record p { hub_log = q.hub_log }) × IsSomeAnd q.hub_log (λ l. LogMade form (inside l))
 Makes means (P.Log E.Seat form) p q = (q ≡ record p { seat_log = q.seat_log }) × IsSomeAnd q.seat_log (λ l. LogMade form (inside l))
-Makes means (P.Line Up form) p q = (q ≡ record p { up = q.up }) × IsSomeAnd q.up (λ t. LineMade form (means t.line) × (t.tally ≡ replicate 12 0))
-Makes means (P.Line Down form) p q = (q ≡ record p { down = q.down }) × IsSomeAnd q.down (λ t. LineMade form (means t.line) × (t.tally ≡ replicate 12 0))
+Makes means (P.Line Up form) p q = (q ≡ record p { up = q.up }) × IsSomeAnd q.up (λ t. LineMade form (means t.line) × (t.tally.counts ≡ replicate 12 0))
+Makes means (P.Line Down form) p q = (q ≡ record p { down = q.down }) × IsSomeAnd q.down (λ t. LineMade form (means t.line) × (t.tally.counts ≡ replicate 12 0))
 Makes means (P.Account texts) p q = (q ≡ record p { accounts = q.accounts }) × Joins texts p.accounts.rows q.accounts.rows
 Makes means (P.Seat texts) p q = (q ≡ record p { seat = q.seat }) × IsSomeAnd q.seat (λ c. Copies texts c)
 Makes means (P.Buffers hub seat out) p q = (q ≡ record p { buffers = q.buffers }) × (q.buffers ≡ blank hub seat out)

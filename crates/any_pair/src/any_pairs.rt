@@ -34,8 +34,8 @@ impl Model for AnyPair {
     ghost view = { λ p. record {
       pair = meaning_of ⟦<AnyLog as Log>⟧.view ⟦<AnyLog as Log>⟧.view
           ⟦<CountedLine<AnyLine> as Line>⟧.view ⟦<CountedLine<AnyLine> as Line>⟧.view p.owned;
-      up = p.owned.up.tally;
-      down = p.owned.down.tally;
+      up = p.owned.up.tally.counts;
+      down = p.owned.down.tally.counts;
     } };
 }
 

@@ -23,7 +23,7 @@ tallied_push : (counts : List ℕ) (vs : List Value) (v : Value) → tallied cou
 tallied_push counts [] v = refl
 tallied_push counts (x ∷ xs) v = tallied_push (raised counts (letter x)) xs v
 
-stay : {old new : Explainer} → new.frame ≡ old.frame → new.tally ≡ old.tally → new.offset ≡ old.offset → (bs : List ℕ) (vs : List Value) → Run bs vs old.frame → Knows vs old.tally old.offset → Went bs vs new
+stay : {old new : Explainer} → new.frame ≡ old.frame → new.tally.counts ≡ old.tally.counts → new.offset ≡ old.offset → (bs : List ℕ) (vs : List Value) → Run bs vs old.frame → Knows vs old.tally.counts old.offset → Went bs vs new
 stay {old} {new} e c o bs vs r k =
     let r' : Run bs vs new.frame = subst (λ (x : List ℕ). Run bs vs x) (sym e) r in
     record {
@@ -42,7 +42,7 @@ turned_error e error bs vs r k = (stay refl refl refl bs vs r k, tt)
 
 module _ (old new : Explainer) where
   -- a read leaves the counts and the offset
-  pub turned_more : (r : Result (Option Ending) Error) → Part old.frame → new.tally ≡ old.tally → new.offset ≡ old.offset → More old.frame new.frame r → Turned old new r
+  pub turned_more : (r : Result (Option Ending) Error) → Part old.frame → new.tally.counts ≡ old.tally.counts → new.offset ≡ old.offset → More old.frame new.frame r → Turned old new r
   turned_more (Ok None) p c o (n, g, h) bs vs r k =
       let m : List ℕ = drop (length old.frame) new.frame in
       let e : old.frame ++ m ≡ new.frame = ap (λ (x : List ℕ). x ++ m) (sym g.kept) ∙ take-append-drop (length old.frame) new.frame in
@@ -61,7 +61,7 @@ module _ (old new : Explainer) where
   turned_more (Err error) p c o e bs vs r k = (stay e c o bs vs r k, tt)
 
   -- a packet
-  pub turned_told : (v : Value) (size : ℕ) → PacketAt old.frame v size → new.frame ≡ drop size old.frame → new.tally ≡ raised old.tally (letter v) → new.offset ≡ min (old.offset + size) (2 ^ 64 - 1) → Turned old new (Ok None)
+  pub turned_told : (v : Value) (size : ℕ) → PacketAt old.frame v size → new.frame ≡ drop size old.frame → new.tally.counts ≡ raised old.tally.counts (letter v) → new.offset ≡ min (old.offset + size) (2 ^ 64 - 1) → Turned old new (Ok None)
   turned_told v size p e c o bs vs r k =
       let ws : List Value = vs ++ v ∷ [] in
       let w : new.frame ≡ drop (length (encode v)) old.frame = e ∙ ap (λ (i : ℕ). drop i old.frame) p.takes in

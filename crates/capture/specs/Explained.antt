@@ -32,14 +32,14 @@ Ends held (E.Fault (F.Log fault)) = ⊥
 
 -- before the first byte
 abbrev pub Fresh : Explainer → Type 0
-Fresh e = (e.frame ≡ []) × (e.tally ≡ replicate 12 0) × (e.offset ≡ 0)
+Fresh e = (e.frame ≡ []) × (e.tally.counts ≡ replicate 12 0) × (e.offset ≡ 0)
 
 -- a run has gone on to here: more bytes came, or a packet was shown, or both are as they were
 pub record Went (bs : List ℕ) (vs : List Value) (e : Explainer) : Type 0 where
   pub more : List ℕ
   pub packets : List Value
   pub run : Run (bs ++ more) packets e.frame
-  pub knows : Knows packets e.tally e.offset
+  pub knows : Knows packets e.tally.counts e.offset
 
 -- how far a run has come
 abbrev pub progress : List ℕ → List Value → ℕ
@@ -63,7 +63,7 @@ More old new (Err fault) = new ≡ old
 -- one step of an explainer takes any run that led to it further
 abbrev pub Turned : Explainer → Explainer → Result (Option Ending) Error → Type 0
 Turned old new r =
-    (bs : List ℕ) (vs : List Value) → Run bs vs old.frame → Knows vs old.tally old.offset →
+    (bs : List ℕ) (vs : List Value) → Run bs vs old.frame → Knows vs old.tally.counts old.offset →
     (w : Went bs vs new) × Answers bs vs new r w
 
 -- a run from the first byte has led here; which bytes came is the input's affair
@@ -71,7 +71,7 @@ pub record Reached (e : Explainer) : Type 0 where
   pub bytes : List ℕ
   pub packets : List Value
   pub run : Run bytes packets e.frame
-  pub knows : Knows packets e.tally e.offset
+  pub knows : Knows packets e.tally.counts e.offset
 
 -- a whole capture: what was reached, and an ending that fits what is left
 pub record Explained (s : Summary) : Type 0 where

@@ -25,7 +25,7 @@ impl<L: Line> CountedLine<L> {
     /// The layer over a line on which nothing was counted yet.
     pub fn new(line: L) -> CountedLine<L>
         ensures line { result.line ≡ line }
-        ensures tally { result.tally ≡ replicate 12 0 }
+        ensures tally { result.tally.counts ≡ replicate 12 0 }
     {
         CountedLine {
             line,
@@ -69,7 +69,7 @@ impl<L: Line> Line for CountedLine<L> {
             let after = L.Line.view self.new.line in
             Put before piece.now result after }
         ensures counted { let before = L.Line.view self.old.line in
-            self.new.tally ≡ counted before piece.now self.old.tally }
+            self.new.tally.counts ≡ counted before piece.now self.old.tally.counts }
     {
         self.line.put(piece)?;
         if let Some(letter) = letter_in(piece) {

@@ -1,36 +1,27 @@
 //! How many packets of each letter there were.
-ghost use Rattle.std.specs.Prelude.{◌≡◌, ℕ, List, replicate, slice_index};
+ghost use Rattle.std.specs.Prelude.{◌≡◌, replicate, slice_index};
 ghost use Rattle.packet.specs.LetterCounts.{ordinal, raised};
 
-use std::marker::Model;
 use wire::Letter;
 
 /// A count for each letter. A count that has come to the largest `u64` stays there.
+// It has no `impl Model`: what holds a struct with one can no longer be passed by value twice, though it be `Copy`.
 #[derive(Clone, Copy)]
 pub struct LetterCounts {
     counts: [u64; 12],
 }
 
-/// It means its counts, one for each letter.
-impl Model for LetterCounts {
-    ghost Value = { List ℕ };
-
-    ghost view = { λ t. t.counts };
-
-    ghost inverse = { λ counts. record { counts = counts } };
-}
-
 impl LetterCounts {
     /// Every count 0.
     pub fn new() -> LetterCounts
-        ensures { result ≡ replicate 12 0 }
+        ensures { result.counts ≡ replicate 12 0 }
     {
         LetterCounts { counts: [0; 12] }
     }
 
     /// One packet more with this letter.
     pub fn note(&mut self, letter: Letter)
-        ensures { self.new ≡ raised self.old letter }
+        ensures { self.new.counts ≡ raised self.old.counts letter }
     {
         let index = index_of(letter);
         self.counts[index] = self.counts[index].saturating_add(1);
@@ -38,7 +29,7 @@ impl LetterCounts {
 
     /// How many packets with this letter there were.
     pub fn count(&self, letter: Letter) -> u64
-        ensures { result ≡ slice_index self.now (ordinal letter) }
+        ensures { result ≡ slice_index self.now.counts (ordinal letter) }
     {
         self.counts[index_of(letter)]
     }

@@ -1,7 +1,9 @@
 //! What is said of a capture, in words.
-use capture::explain;
+use capture::{Summary, explain};
+use packet::LetterCounts;
 use std::process::Abort;
 use std::test::Fail;
+use wire::Letter;
 
 // Whether the words of a capture, after the line of headings, are these.
 fn says(rt: &(impl Abort + AllocGlobal), capture: &[u8], words: &[u8]) -> Result<(), Fail> {
@@ -10,6 +12,30 @@ fn says(rt: &(impl Abort + AllocGlobal), capture: &[u8], words: &[u8]) -> Result
     let _ = explain(rt.alloc(), &mut input, &mut out)?;
     assert!(rt; out.len() > 26);
     assert_eq!(rt; &out[26..], words);
+    Ok(())
+}
+
+// How many bytes the packets of a capture took.
+fn bytes_in(summary: Summary) -> u64 {
+    summary.offset
+}
+
+// How many heartbeats of a hub were counted, if anything was.
+fn beats_in(counts: Option<LetterCounts>) -> u64 {
+    counts.map_or(0, |counts| counts.count(Letter::HubHeartbeat))
+}
+
+// Each is handed over twice.
+#[test]
+fn summaries_and_counts_are_copied(rt: HostRuntime) -> Result<(), Fail> {
+    let mut input: &[u8] = b"\x01\00\x01\00";
+    let mut out = Vec::new(rt.alloc());
+    let summary = explain(rt.alloc(), &mut input, &mut out)?;
+    assert_eq!(rt; bytes_in(summary), 6);
+    assert_eq!(rt; bytes_in(summary), 6);
+    let counts = Some(summary.tally);
+    assert_eq!(rt; beats_in(counts), 2);
+    assert_eq!(rt; beats_in(counts), 2);
     Ok(())
 }
 

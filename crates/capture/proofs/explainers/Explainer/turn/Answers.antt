@@ -4,6 +4,7 @@ use Rattle.packet.specs.Meanings.{value_of}
 use Rattle.capture.specs.Finding.{Part, PacketAt, FindsFirst}
 use Rattle.capture.specs.declared.finding.Found.{Found}
 use Rattle.packet.specs.LetterCounts.{raised}
+use Rattle.packet.specs.declared.letter_counts.LetterCounts.{LetterCounts}
 use Rattle.capture.proofs.Turns.{turned_fault, turned_error, turned_more, turned_told}
 use Rattle.capture.proofs.explainers.Explainer.turn.Goals as goal
 
@@ -15,7 +16,7 @@ returns-in-Err-clause-turned g c =
 pub returns-in-Ok-None-clause-turned : goal.returns-in-Ok-None-clause-turned
 returns-in-Ok-None-clause-turned g c =
     let m = c.more.ensures in
-    turned_more _ _ c.more.result (subst Part c.bytes.ensures.held (subst (λ (o : Option Found). FindsFirst c.bytes.result.now (Ok o)) c.in-Ok-None.field-0-is c.in-Ok-None.ensures)) m.tally m.offset m.frame
+    turned_more _ _ c.more.result (subst Part c.bytes.ensures.held (subst (λ (o : Option Found). FindsFirst c.bytes.result.now (Ok o)) c.in-Ok-None.field-0-is c.in-Ok-None.ensures)) (ap (λ (x : LetterCounts). x.counts) m.tally) m.offset m.frame
 
 pub returns-in_err-show_packet-clause-turned : goal.returns-in_err-show_packet-clause-turned
 returns-in_err-show_packet-clause-turned g c =
@@ -27,4 +28,4 @@ returns-clause-turned g c =
     let found = c.in-Ok-Some.found in
     let v = value_of found.packet in
     let at = subst (λ (x : List ℕ). PacketAt x v found.size) c.bytes.ensures.held (subst (λ (o : Option Found). FindsFirst c.bytes.result.now (Ok o)) c.in-Ok-Some.field-0-is c.in-Ok-Some.ensures) in
-    turned_told _ _ v found.size at c.pass.ensures.held (c.note.ensures ∙ ap (raised c.args.self.now.tally) c.letter-letter.ensures) c.saturating_add-self.ensures
+    turned_told _ _ v found.size at c.pass.ensures.held (c.note.ensures ∙ ap (raised c.args.self.now.tally.counts) c.letter-letter.ensures) c.saturating_add-self.ensures
