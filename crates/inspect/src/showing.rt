@@ -1,11 +1,22 @@
 //! Showing what a saved journal holds.
+ghost use Rattle.std.specs.Prelude.{◌≡◌, ◌<◌, ◌≤◌, length, take, None};
+ghost use Rattle.logs.specs.Reading.{fault_at};
+
 use capture::rows::{ROW, row};
-use logs::{JOURNAL_LEAST, JOURNAL_LIMIT, Journal, fault_at};
+use logs::{JOURNAL_LEAST, JOURNAL_LIMIT, Journal, RecordFault, fault_at};
 use message_log::Log;
 use std::alloc::Global;
 use std::io;
 use std::io::Write;
 use wire::{Refusal, Unmade};
+
+/// What is wrong at this place of the first `used` bytes, if anything is.
+fn cause(memory: &[u8], used: usize, place: usize) -> Option<RecordFault>
+    ensures within { used ≤ length memory.now → result ≡ fault_at (take used memory.now) place }
+    ensures beyond { length memory.now < used → result ≡ None }
+{
+    fault_at(memory.get(..used)?, place)
+}
 
 /// Where journals are shown, and the heap that it takes.
 #[derive(Drop)]
@@ -63,8 +74,7 @@ impl<W: Write> Printer<W> {
         let Refusal::BrokenLog(place) = unmade.refusal else {
             return writeln!(self.out, "{path}: {}", unmade.refusal);
         };
-        let saved = unmade.given.get(..used);
-        match saved.and_then(|bytes| fault_at(bytes, place)) {
+        match cause(&unmade.given, used, place) {
             Some(fault) => writeln!(self.out, "{path}: broken at place {place}: {fault}")?,
             None => writeln!(self.out, "{path}: broken at place {place}")?,
         }
