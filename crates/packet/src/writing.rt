@@ -166,7 +166,10 @@ fn put_head(out: &mut [u8], count: u16, letter: Letter)
     requires { 3 ≤ length out.old }
     ensures { out.new ≡ little 2 count ++ (letter_byte letter ∷ drop 3 out.old) }
 {
-    lay(out, 0, &head(count, letter));
+    let [low, high, byte] = head(count, letter);
+    out[0] = low;
+    out[1] = high;
+    out[2] = byte;
 }
 
 // The body of a login request.
